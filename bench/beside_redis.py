@@ -1,10 +1,12 @@
 #!/usr/bin/env python3
-"""Times a single put from Python beside redis-py's SET to a local Redis, in turns, one client each: each figure is the best of five rounds.
+"""Times a single put from Python beside redis-py's SET to a local Redis, in turns, one client each:
+each figure is the best of five rounds.
 
     python3 bench/beside_redis.py [PROGRAM [PUTS]]
 
-Defaults: PROGRAM crates/oaut/out/oaut, PUTS 10,000. Both keep what they get in memory alone: `oaut play` over its pipes, `redis-server`
-over TCP on localhost, as redis-py connects by itself. It needs redis-server and redis-py (Debian: redis-server, python3-redis).
+Defaults: PROGRAM crates/oaut/out/oaut, PUTS 10,000. Both keep what they get in memory alone: `oaut
+play` over its pipes, `redis-server` over TCP on localhost, as redis-py connects by itself. It needs
+redis-server and redis-py (Debian: redis-server, python3-redis).
 """
 import contextlib
 import os
@@ -26,7 +28,19 @@ def local_redis():
     with socket.create_server(("127.0.0.1", 0)) as free:
         port = free.getsockname()[1]
     with tempfile.TemporaryDirectory() as room:
-        words = ["redis-server", "--port", str(port), "--bind", "127.0.0.1", "--save", "", "--appendonly", "no", "--dir", room]
+        words = [
+            "redis-server",
+            "--port",
+            str(port),
+            "--bind",
+            "127.0.0.1",
+            "--save",
+            "",
+            "--appendonly",
+            "no",
+            "--dir",
+            room,
+        ]
         with subprocess.Popen(words, stdout=subprocess.DEVNULL) as child:
             try:
                 client = redis.Redis(port=port)
@@ -60,9 +74,15 @@ def main():
         def put(number):
             item.Count = number
 
-        found = [(rate(puts, put), rate(puts, lambda number: other.set("count", number))) for _ in range(ROUNDS)]
+        found = [
+            (rate(puts, put), rate(puts, lambda number: other.set("count", number)))
+            for _ in range(ROUNDS)
+        ]
     ours, theirs = (max(it) for it in zip(*found))
-    print(f"a put: {ours:,.0f} a second; redis-py's SET: {theirs:,.0f} a second; {100 * ours / theirs:.0f} %")
+    print(
+        f"a put: {ours:,.0f} a second; redis-py's SET: {theirs:,.0f} a second; "
+        f"{100 * ours / theirs:.0f} %"
+    )
     print("in the rounds:", ", ".join(f"{100 * one / two:.0f} %" for one, two in found))
 
 

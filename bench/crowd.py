@@ -3,15 +3,17 @@
 
     python3 bench/crowd.py [PROGRAM [FOLDER [SECONDS [ROUNDS]]]]
 
-Defaults: PROGRAM crates/oaut/out/oaut, FOLDER of the files the current one, SECONDS of each measurement 3, ROUNDS 3. Beside the client there are:
+Defaults: PROGRAM crates/oaut/out/oaut, FOLDER of the files the current one, SECONDS of each
+measurement 3, ROUNDS 3. Beside the client there are:
 
 - nobody;
 - 15 clients that each get a text of 1 MB, again and again, as processes of their own;
 - 15 clients of bench/load.c with 64 puts in flight each;
 - 50, then 200 clients that each ask for 40 texts of 50 KB at once and read nothing.
 
-Prints the median, the 99th percentile and the longest of all rounds, in milliseconds. Then one client asks for 40 texts of 1 MB at once after 40 short replies,
-and reads 5 MB a second: printed is how much of them arrives.
+Prints the median, the 99th percentile and the longest of all rounds, in milliseconds. Then one
+client asks for 40 texts of 1 MB at once after 40 short replies, and reads 5 MB a second: printed is
+how much of them arrives.
 """
 import contextlib
 import os
@@ -24,10 +26,10 @@ import tempfile
 import time
 
 ROOT = os.path.dirname(os.path.dirname(os.path.abspath(__file__)))
-sys.path.append(f"{ROOT}/tests/support")
-import wire
+sys.path.insert(0, ROOT)
+from tests.support import wire
 from command_line import words
-from wire import oaut
+from tests.support.wire import oaut
 
 LIBRARY = f"{ROOT}/examples/full.idl"
 COUNT, NAME = 1, 2  # members of an Item
@@ -44,7 +46,11 @@ def get(number, member=NAME):
 
 
 def put(number, value):
-    return record(oaut.ask_invoke(number, COUNT, oaut.PROPERTYPUT, [oaut.NEW_VALUE], [wire.scalar(wire.I4, value)]))
+    return record(
+        oaut.ask_invoke(
+            number, COUNT, oaut.PROPERTYPUT, [oaut.NEW_VALUE], [wire.scalar(wire.I4, value)]
+        )
+    )
 
 
 def dialled():
@@ -80,7 +86,10 @@ def read_again_and_again():
 
 @contextlib.contextmanager
 def children(count, *command):
-    found = [subprocess.Popen(command, stdout=subprocess.DEVNULL, stderr=subprocess.DEVNULL) for _ in range(count)]
+    found = [
+        subprocess.Popen(command, stdout=subprocess.DEVNULL, stderr=subprocess.DEVNULL)
+        for _ in range(count)
+    ]
     try:
         yield
     finally:
@@ -129,7 +138,10 @@ def slow_reader():
 
 def main(program, seconds, rounds):
     resource.setrlimit(resource.RLIMIT_NOFILE, (resource.getrlimit(resource.RLIMIT_NOFILE)[1],) * 2)
-    subprocess.run(["cc", "-O2", "-Wall", "-Wextra", "-Werror", "-o", "load", f"{ROOT}/bench/load.c"], check=True)
+    subprocess.run(
+        ["cc", "-O2", "-Wall", "-Wextra", "-Werror", "-o", "load", f"{ROOT}/bench/load.c"],
+        check=True,
+    )
     subprocess.run([f"{ROOT}/clients/gateway/build.sh", "."], check=True)
     subprocess.run([program, "format", "it.store", LIBRARY], check=True, stdout=subprocess.DEVNULL)
     with oaut.serve("it.store", LIBRARY, program=program) as server, server.batch():
@@ -147,7 +159,18 @@ def main(program, seconds, rounds):
     found = {}
     for _ in range(rounds):
         for name, way in ways.items():
-            with subprocess.Popen(["./oaut-gateway", "--program", program, "--report", "0", "--listen", "./gateway.sock", "it.store"]) as child:
+            with subprocess.Popen(
+                [
+                    "./oaut-gateway",
+                    "--program",
+                    program,
+                    "--report",
+                    "0",
+                    "--listen",
+                    "./gateway.sock",
+                    "it.store",
+                ]
+            ) as child:
                 oaut.connect("./gateway.sock", patience=30).close()
                 with way():
                     time.sleep(0.3 if name != "nobody" else 0)
@@ -158,7 +181,10 @@ def main(program, seconds, rounds):
     for name, times in found.items():
         times.sort()
         count = len(times)
-        print(f"beside {name:22} p50 {times[count // 2]:8.3f} ms   p99 {times[count * 99 // 100]:8.3f} ms   longest {times[-1]:8.1f} ms   ({count:,} puts)")
+        print(
+            f"beside {name:22} p50 {times[count // 2]:8.3f} ms   p99 "
+            f"{times[count * 99 // 100]:8.3f} ms   longest {times[-1]:8.1f} ms   ({count:,} puts)"
+        )
     print(f"a client that reads 5 MB a second gets {got / 1e6:.0f} MB in {took:.1f} s")
 
 

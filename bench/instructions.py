@@ -3,10 +3,12 @@
 
     python3 bench/instructions.py [PROGRAM]      Default of PROGRAM: crates/oaut/out/oaut
 
-First requests in tables of 10, 1,000 and 60,000 objects, and a put of a new cell among 300,000 of an object. Then all instructions of the program for a put or
-a get of a long, over lines, as records and as frames of 16 clients. Then those for a put in groups of 1,024 over a store, and for a request of each kind as a
-record in memory. They have the form of tests/tables/instructions.txt, with which the gate compares them. Last come the bytes of each kind, with its reply, and
-their cost in puts of a long: by the byte, or by the request if it has fewer bytes.
+First requests in tables of 10, 1,000 and 60,000 objects, and a put of a new cell among 300,000 of
+an object. Then all instructions of the program for a put or a get of a long, over lines, as records
+and as frames of 16 clients. Then those for a put in groups of 1,024 over a store, and for a request
+of each kind as a record in memory. They have the form of tests/tables/instructions.txt, with which
+the gate compares them. Last come the bytes of each kind, with its reply, and their cost in puts of
+a long: by the byte, or by the request if it has fewer bytes.
 """
 import os
 import sys
@@ -14,10 +16,9 @@ import sys
 from command_line import words
 
 ROOT = os.path.dirname(os.path.dirname(os.path.abspath(__file__)))
-sys.path.insert(0, f"{ROOT}/tests/support")  # before this folder, which has a script of that name
+sys.path.insert(0, ROOT)
 (os.environ["OAUT_PROGRAM"],) = words(__doc__)
-import instructions
-import kinds
+from tests.support import instructions, kinds
 
 if instructions.VALGRIND is None:
     sys.exit("valgrind is not there")

@@ -1,13 +1,17 @@
 #!/usr/bin/env python3
-"""Times records up to their limit of 4,194,304 bytes, through both framings, and measures the memory of a session.
+"""Times records up to their limit of 4,194,304 bytes, through both framings, and measures the
+memory of a session.
 
-    python3 bench/large.py [PROGRAM [MEGABYTES]]      Defaults: PROGRAM crates/oaut/out/oaut, MEGABYTES 256
+    python3 bench/large.py [PROGRAM [MEGABYTES]]      Defaults: PROGRAM crates/oaut/out/oaut,
+        MEGABYTES 256
 
-First the peak resident memory of a session of short lines and of one of short records, in memory and over a store. It is at most 5,120 KiB, since only as much
-of the buffers is touched as the longest line or body needs. Then puts of arrays of four texts whose records have 65,536, 262,144, 1,048,576 and 4,194,304
-bytes, MEGABYTES of each, and the same with a get of the value after each put. Prints megabytes of records a second, the best of five runs, and those of a
-program that only moves the same bytes (bench/copies.c), since caches hold short records and not long ones. Relative to that program, the longest records are as
-fast as the others, within 1.2.
+First the peak resident memory of a session of short lines and of one of short records, in memory
+and over a store. It is at most 5,120 KiB, since only as much of the buffers is touched as the
+longest line or body needs. Then puts of arrays of four texts whose records have 65,536, 262,144,
+1,048,576 and 4,194,304 bytes, MEGABYTES of each, and the same with a get of the value after each
+put. Prints megabytes of records a second, the best of five runs, and those of a program that only
+moves the same bytes (bench/copies.c), since caches hold short records and not long ones. Relative
+to that program, the longest records are as fast as the others, within 1.2.
 """
 import os
 import subprocess
@@ -17,10 +21,10 @@ import time
 import uuid
 
 ROOT = os.path.dirname(os.path.dirname(os.path.abspath(__file__)))
-sys.path.append(f"{ROOT}/tests/support")
-import wire
+sys.path.insert(0, ROOT)
+from tests.support import wire
 from command_line import words
-from memory import peak_of
+from tests.support.memory import peak_of
 
 PROGRAM, MEGABYTES = words(__doc__, megabytes=256)
 SIZES = (65_536, 262_144, 1_048_576, 4_194_304)
@@ -40,10 +44,15 @@ def get_of(dispid):
 
 
 def texts(length):
-    """A put whose record has so many bytes: an array of four texts, of which the last is as long as is left."""
+    """A put whose record has so many bytes: an array of four texts, of which the last is as long as
+    is left."""
     part = (length // 4 - 64) // 8 * 8
-    rest = length - 4 - len(put_of(NAMES, wire.array(wire.BSTR, [(4, 0)], [bytes(part)] * 3 + [b""])))
-    asked = put_of(NAMES, wire.array(wire.BSTR, [(4, 0)], [b"a\0" * (part // 2)] * 3 + [b"a\0" * (rest // 2)]))
+    rest = (
+        length - 4 - len(put_of(NAMES, wire.array(wire.BSTR, [(4, 0)], [bytes(part)] * 3 + [b""])))
+    )
+    asked = put_of(
+        NAMES, wire.array(wire.BSTR, [(4, 0)], [b"a\0" * (part // 2)] * 3 + [b"a\0" * (rest // 2)])
+    )
     assert len(asked) + 4 == length, len(asked) + 4
     return asked
 
@@ -56,11 +65,25 @@ def packed(path, form, requests):
 
 
 def resident(command, form, room):
-    """The peak resident memory of a session of short requests, in KiB: it is read while the program waits for more."""
-    packed(f"{room}/in", form, [ask.ask_create(CLASS), *(it for number in range(100) for it in (put_of(COUNT, wire.scalar(wire.I4, number)), get_of(COUNT)))])
+    """The peak resident memory of a session of short requests, in KiB: it is read while the program
+    waits for more."""
+    packed(
+        f"{room}/in",
+        form,
+        [
+            ask.ask_create(CLASS),
+            *(
+                it
+                for number in range(100)
+                for it in (put_of(COUNT, wire.scalar(wire.I4, number)), get_of(COUNT))
+            ),
+        ],
+    )
     with open(f"{room}/in", "rb") as file:
         given = file.read()
-    child = subprocess.Popen([PROGRAM, *command, *form.words], cwd=room, stdin=subprocess.PIPE, stdout=subprocess.PIPE)
+    child = subprocess.Popen(
+        [PROGRAM, *command, *form.words], cwd=room, stdin=subprocess.PIPE, stdout=subprocess.PIPE
+    )
     child.stdin.write(given)
     child.stdin.flush()
     for _ in range(201):
@@ -91,7 +114,12 @@ with tempfile.TemporaryDirectory() as room:
         copy.write(file.read())
     subprocess.run(["cc", "-O3", "-o", f"{room}/copies", f"{ROOT}/bench/copies.c"], check=True)
     for name, form in ask.FRAMINGS.items():
-        subprocess.run([PROGRAM, "format", "it.store", "lib.idl"], cwd=room, check=True, stdout=subprocess.DEVNULL)
+        subprocess.run(
+            [PROGRAM, "format", "it.store", "lib.idl"],
+            cwd=room,
+            check=True,
+            stdout=subprocess.DEVNULL,
+        )
         for command in (["play", "lib.idl"], ["serve", "it.store", "lib.idl"]):
             peak = resident(command, form, room)
             print(f"{command[0]}, short requests as {name}: peak {peak:,} KiB")
@@ -109,9 +137,14 @@ with tempfile.TemporaryDirectory() as room:
                 megabytes = size * count * (1 + len(more)) / 1e6
                 parts.append(moving / seconds)
                 print(
-                    f"{what} of {size:,} bytes as {name}: {megabytes / seconds:,.0f} MB of records a second, {parts[-1]:.2f} of the {megabytes / moving:,.0f} that moving them alone does"
+                    f"{what} of {size:,} bytes as {name}: {megabytes / seconds:,.0f} MB of records "
+                    f"a second, {parts[-1]:.2f} of the {megabytes / moving:,.0f} that moving them "
+                    "alone does"
                 )
             if max(parts) > 1.2 * parts[-1]:
-                slow.append(f"{what} of the longest records as {name} run at {parts[-1]:.2f} of what moving them does, others at {max(parts):.2f}")
+                slow.append(
+                    f"{what} of the longest records as {name} run at {parts[-1]:.2f} of what "
+                    f"moving them does, others at {max(parts):.2f}"
+                )
 if slow:
     sys.exit("; ".join(slow))

@@ -1,11 +1,14 @@
 #!/usr/bin/env python3
-"""The processor time of a long reply to the Python client, and the memory of requests that a server does not read.
+"""The processor time of a long reply to the Python client, and the memory of requests that a server
+does not read.
 
     python3 bench/replies.py [PROGRAM [MIB [ROUNDS]]]
 
-Defaults: PROGRAM crates/oaut/out/oaut, MIB of the reply 24, ROUNDS 5. Prints the least processor time of the rounds, of the client alone: the synchronous
-client over a socket and over a pipe, `oaut.aio` over a socket, and `oaut.frames` over a pipe. The reply comes from tests/client/large.py. Then 200 puts of 1 MiB go to a
-program that has been stopped, by `oaut.aio`: printed is the most memory of the client's requests.
+Defaults: PROGRAM crates/oaut/out/oaut, MIB of the reply 24, ROUNDS 5. Prints the least processor
+time of the rounds, of the client alone: the synchronous client over a socket and over a pipe,
+`oaut.aio` over a socket, and `oaut.frames` over a pipe. The reply comes from tests/client/large.py.
+Then 200 puts of 1 MiB go to a program that has been stopped, by `oaut.aio`: printed is the most
+memory of the client's requests.
 """
 import asyncio
 import contextlib
@@ -29,7 +32,11 @@ PUTS, TEXT = 200, "n" * (1 << 19)  # (two bytes a character)
 def large(size, *more, pipes=False):
     """A socket, or two pipes, of a server whose list of objects has so many bytes."""
     ours, theirs = socket.socketpair()
-    how = {"stdin": subprocess.PIPE, "stdout": subprocess.PIPE, "bufsize": 0} if pipes else {"stdin": theirs, "stdout": theirs}
+    how = (
+        {"stdin": subprocess.PIPE, "stdout": subprocess.PIPE, "bufsize": 0}
+        if pipes
+        else {"stdin": theirs, "stdout": theirs}
+    )
     with subprocess.Popen([sys.executable, LARGE, str(size), *more], **how) as child, ours:
         theirs.close()
         yield (child.stdout, child.stdin) if pipes else (ours,)
@@ -62,7 +69,9 @@ def main():
                 note(f"the synchronous client over {over}", begun, server.exchange(asked)[0])
     with large(size) as ways:
         asyncio.run(awaited(*ways))
-    with large(size, "--frames", pipes=True) as ways, frames.Shared(*ways) as shared, shared.session() as server:
+    with large(size, "--frames", pipes=True) as ways, frames.Shared(
+        *ways
+    ) as shared, shared.session() as server:
         for _ in range(rounds):
             begun = time.process_time()
             note("oaut.frames over a pipe", begun, server.exchange(asked)[0])
@@ -72,7 +81,9 @@ def main():
 
     async def unread():
         ours, theirs = socket.socketpair()
-        with theirs, subprocess.Popen([program, "play", FULL], stdin=theirs, stdout=theirs) as child:
+        with theirs, subprocess.Popen(
+            [program, "play", FULL], stdin=theirs, stdout=theirs
+        ) as child:
             server = await aio.connect(ours)
             item = await server.create("Item")
             os.kill(child.pid, signal.SIGSTOP)
@@ -86,7 +97,10 @@ def main():
             await server.close()
         return most
 
-    print(f"{PUTS} puts of 1 MiB that nobody reads: at most {asyncio.run(unread()) / (1 << 20):.1f} MiB")
+    print(
+        f"{PUTS} puts of 1 MiB that nobody reads: at most {asyncio.run(unread()) / (1 << 20):.1f} "
+        "MiB"
+    )
 
 
 if __name__ == "__main__":

@@ -1,6 +1,7 @@
 #!/usr/bin/env python3
-"""The manual pages: oaut(1), oaut-gateway(1) and oaut-dcom(1) from pages of docs/, oaut-tools(1) from the help of its commands, and
-ocf_oaut_gateway(7) from the meta-data of Pacemaker's agent. python3-oaut(1) is oaut-tools(1).
+"""The manual pages: oaut(1), oaut-gateway(1) and oaut-dcom(1) from pages of docs/, oaut-tools(1)
+from the help of its commands, and ocf_oaut_gateway(7) from the meta-data of Pacemaker's agent.
+python3-oaut(1) is oaut-tools(1).
 
     python3 dist/manual.py [VERSION [NAME]] > oaut.1
 """
@@ -14,7 +15,19 @@ import xml.etree.ElementTree
 
 ROOT = os.path.dirname(os.path.dirname(os.path.abspath(__file__)))
 # the sections of each page; those that only some pages have come in place of None
-ORDER = ("NAME", "SYNOPSIS", "DESCRIPTION", "COMMANDS", "OPTIONS", "EXIT STATUS", None, "ENVIRONMENT", "FILES", "EXAMPLES", "SEE ALSO")
+ORDER = (
+    "NAME",
+    "SYNOPSIS",
+    "DESCRIPTION",
+    "COMMANDS",
+    "OPTIONS",
+    "EXIT STATUS",
+    None,
+    "ENVIRONMENT",
+    "FILES",
+    "EXAMPLES",
+    "SEE ALSO",
+)
 
 
 class Page(typing.NamedTuple):
@@ -47,7 +60,8 @@ oaut-gateway --help | --version""",
         """\
 ## Files
 
-The gateway makes only its sockets, and the copy of a backup. The Debian package uses these files for each store NAME:
+The gateway makes only its sockets, and the copy of a backup. The Debian package uses these files \
+for each store NAME:
 
 | File | Contents |
 |---|---|
@@ -55,7 +69,8 @@ The gateway makes only its sockets, and the copy of a backup. The Debian package
 | `/var/lib/oaut/NAME.store` | the store |
 | `/run/oaut/NAME.sock`, `/run/oaut/NAME.alone.sock` | the shared and the exclusive socket |
 | `/run/oaut/NAME.control.sock` | the control socket |
-| `/usr/share/oaut/alerts.yml`, `/usr/share/oaut/grafana.json` | alerts and a dashboard for the metrics |
+| `/usr/share/oaut/alerts.yml`, `/usr/share/oaut/grafana.json` | alerts and a dashboard for the \
+metrics |
 
 ## Examples
 
@@ -72,7 +87,8 @@ Give the running gateway other limits:
 
 ## See also
 
-oaut(1), oaut-dcom(1), oaut-tools(1), ocf_oaut_gateway(7), systemd.socket(5), stunnel(8); docs/operations/operating.md and
+oaut(1), oaut-dcom(1), oaut-tools(1), ocf_oaut_gateway(7), systemd.socket(5), stunnel(8); \
+docs/operations/operating.md and
 docs/reference/shared.md of the package's documentation.
 """,
     ),
@@ -92,7 +108,8 @@ oaut-dcom --help | --version""",
 |---|---|
 | `oaut-dcom --gateway SOCKET --users FILE` | serves DCOM clients of the gateway's store |
 | `oaut-dcom hash USER` | asks for a password, and prints the user's line for `--users` |
-| `oaut-dcom reg` | prints the .reg file with which a Windows machine finds the server; with `--remove` the one that undoes it |
+| `oaut-dcom reg` | prints the .reg file with which a Windows machine finds the server; with \
+`--remove` the one that undoes it |
 
 ## Files
 
@@ -115,17 +132,21 @@ Make the file that registers the store's coclasses as `Desk.Item` and so on:
 
 ## See also
 
-oaut(1), oaut-gateway(1), kadmin(1); docs/guide/dcom.md and docs/guide/com.md of the package's documentation.
+oaut(1), oaut-gateway(1), kadmin(1); docs/guide/dcom.md and docs/guide/com.md of the package's \
+documentation.
 """,
     ),
     TOOLS: Page(
         "tools for stores, libraries and clients of OLE Automation objects",
-        synopsis=f"{TOOLS} COMMAND ..\npython3 -m oaut COMMAND ..\n{TOOLS} --help | --version\n{TOOLS} COMMAND --help",
+        synopsis=f"{TOOLS} COMMAND ..\npython3 -m oaut COMMAND ..\n{TOOLS} --help | --version\n"
+        f"{TOOLS} COMMAND --help",
         added="""\
 ## Description
 
-`oaut-tools`, which is the same as `python3 -m oaut`, reads, copies and repairs the files of stores, and helps to write libraries and clients. It is a
-part of the Python client, python3-oaut. Its commands `play`, `serve`, `format`, `upgrade`, `dump` and `check` run oaut(1) with the arguments that follow.
+`oaut-tools`, which is the same as `python3 -m oaut`, reads, copies and repairs the files of \
+stores, and helps to write libraries and clients. It is a
+part of the Python client, python3-oaut. Its commands `play`, `serve`, `format`, `upgrade`, `dump` \
+and `check` run oaut(1) with the arguments that follow.
 
 ## Options
 
@@ -136,12 +157,15 @@ part of the Python client, python3-oaut. Its commands `play`, `serve`, `format`,
 
 ## Exit status
 
-**0** after success, **1** after an error, which is one line on standard error, and **2** after a wrong command line. A command that runs oaut(1) exits
-with the status of that program. After a signal the status is 128 plus its number, and **141** if the reader of standard output has gone.
+**0** after success, **1** after an error, which is one line on standard error, and **2** after a \
+wrong command line. A command that runs oaut(1) exits
+with the status of that program. After a signal the status is 128 plus its number, and **141** if \
+the reader of standard output has gone.
 
 ## Environment
 
-`OAUT_VIEW_TOKEN` is the token that a browser needs for the page of `view`. Default: a new one for each start.
+`OAUT_VIEW_TOKEN` is the token that a browser needs for the page of `view`. Default: a new one for \
+each start.
 
 ## Files
 
@@ -166,12 +190,14 @@ The tools have no files of their own.
 
 ## See also
 
-oaut(1), oaut-gateway(1), and in the package's documentation docs/guide/client.md, docs/reference/store.md, docs/guide/import.md and docs/guide/view.md.
+oaut(1), oaut-gateway(1), and in the package's documentation docs/guide/client.md, \
+docs/reference/store.md, docs/guide/import.md and docs/guide/view.md.
 """,
     ),
     AGENT: Page(
         "Pacemaker's agent for a store of OLE Automation objects",
-        synopsis="primitive NAME ocf:oaut:gateway params store=PATH [PARAMETER=VALUE ..]\n/usr/lib/ocf/resource.d/oaut/gateway ACTION",
+        synopsis="primitive NAME ocf:oaut:gateway params store=PATH [PARAMETER=VALUE ..]\n"
+        "/usr/lib/ocf/resource.d/oaut/gateway ACTION",
         section=7,
         added="""\
 ## Commands
@@ -180,8 +206,10 @@ These are the actions that Pacemaker calls.
 
 | Action | Effect |
 |---|---|
-| `start` | runs the command of `before`, starts oaut-gateway(1), and waits until the server answers |
-| `stop` | ends the gateway after the replies to complete requests; kills it after half of the action's time |
+| `start` | runs the command of `before`, starts oaut-gateway(1), and waits until the server \
+answers |
+| `stop` | ends the gateway after the replies to complete requests; kills it after half of the \
+action's time |
 | `monitor` | checks by `oaut-gateway probe` whether the server answers |
 | `validate-all` | checks the parameters |
 | `meta-data` | prints the parameters and actions as XML |
@@ -190,7 +218,8 @@ These are the actions that Pacemaker calls.
 
 | Status | Meaning |
 |---|---|
-| 0 | success; `monitor`: the server answers, or keeps others waiting for an exclusive client or a backup |
+| 0 | success; `monitor`: the server answers, or keeps others waiting for an exclusive client or a \
+backup |
 | 1 | an error: the gateway does not answer, was killed, or another process has the store |
 | 2 | there is no store at that path |
 | 3 | there is no such action |
@@ -214,12 +243,14 @@ INSTANCE is the name of the resource, `rundir` and `logdir` are parameters.
 For `crm configure`:
 
     primitive server ocf:oaut:gateway \\
-        params store=/srv/stores/items.store before="/usr/lib/oaut/rewrite /srv/stores/items.store" \\
+        params store=/srv/stores/items.store \
+before="/usr/lib/oaut/rewrite /srv/stores/items.store" \\
         op start timeout=60s op stop timeout=20s op monitor interval=3s timeout=20s
 
 ## See also
 
-oaut-gateway(1), crm(8), pacemaker-controld(7); docs/operations/takeover.md of the package's documentation.
+oaut-gateway(1), crm(8), pacemaker-controld(7); docs/operations/takeover.md of the package's \
+documentation.
 """,
     ),
 }
@@ -248,9 +279,15 @@ def inline(text):
 
 
 def paragraph(lines, at):
-    """The lines from a place on that make one paragraph or one item of a list, as one line, and the next place."""
+    """The lines from a place on that make one paragraph or one item of a list, as one line, and the
+    next place."""
     end = at + 1
-    while end < len(lines) and lines[end] and not ITEM.match(lines[end]) and not lines[end].startswith(("|", "#", "    ", "```")):
+    while (
+        end < len(lines)
+        and lines[end]
+        and not ITEM.match(lines[end])
+        and not lines[end].startswith(("|", "#", "    ", "```"))
+    ):
         end += 1
     return " ".join(it.strip() for it in lines[at:end]), end
 
@@ -275,7 +312,12 @@ def body(lines):
             told.append(f".SS {inline(line[4:].replace('`', ''))}")
         elif line.startswith("    "):
             begun = at
-            while at < len(lines) and (lines[at].startswith("    ") or not lines[at] and lines[at + 1 :] and lines[at + 1].startswith("    ")):
+            while at < len(lines) and (
+                lines[at].startswith("    ")
+                or not lines[at]
+                and lines[at + 1 :]
+                and lines[at + 1].startswith("    ")
+            ):
                 at += 1
             told += lines_as_they_are(it[4:] for it in lines[begun:at])
             continue
@@ -293,9 +335,16 @@ def body(lines):
                 told.append(inline(f"{head[0]}, {head[1].lower()}:"))
             for row in found:
                 # of three columns and more each says whose it is
-                cells = row[1:] if len(head) == 2 else [f"{name}: {it}." for name, it in zip(head[1:], row[1:])]
+                cells = (
+                    row[1:]
+                    if len(head) == 2
+                    else [f"{name}: {it}." for name, it in zip(head[1:], row[1:])]
+                )
                 # (a row without a first cell goes on with the one before)
-                told += [*([".TP", f"\\fB{inline(row[0])}\\fR"] if row[0] else []), *map(inline, cells)]
+                told += [
+                    *([".TP", f"\\fB{inline(row[0])}\\fR"] if row[0] else []),
+                    *map(inline, cells),
+                ]
             continue
         elif not line:
             if not told[-1].startswith((".SH", ".SS", ".PP")):
@@ -303,7 +352,11 @@ def body(lines):
         else:
             text, at = paragraph(lines, at)
             item = ITEM.match(text)
-            told += [f".IP {item[1]} 4" if item[1] else ".IP \\(bu 2", inline(text[item.end() :])] if item else [inline(text)]
+            told += (
+                [f".IP {item[1]} 4" if item[1] else ".IP \\(bu 2", inline(text[item.end() :])]
+                if item
+                else [inline(text)]
+            )
             continue
         at += 1
     while told[-1] == ".PP":
@@ -312,7 +365,8 @@ def body(lines):
 
 
 def sections_of(text):
-    """The sections of a page of docs/, by their headings, each as lines; those before the first heading are its description."""
+    """The sections of a page of docs/, by their headings, each as lines; those before the first
+    heading are its description."""
     sections, heading, is_code = {"DESCRIPTION": []}, "DESCRIPTION", False
     for line in text.split("\n"):
         is_code ^= line.startswith("```")
@@ -330,8 +384,14 @@ def options_of(parser):
     for it in parser._actions:
         if isinstance(it, argparse._SubParsersAction) or it.dest == "help":
             continue
-        value = it.metavar or ("|".join(it.choices) if it.choices else it.dest.upper()) if it.nargs != 0 else ""
-        names = [inline(f"{option} {value}".strip()) for option in it.option_strings] or [inline(value)]
+        value = (
+            it.metavar or ("|".join(it.choices) if it.choices else it.dest.upper())
+            if it.nargs != 0
+            else ""
+        )
+        names = [inline(f"{option} {value}".strip()) for option in it.option_strings] or [
+            inline(value)
+        ]
         told += [".TP", f"\\fB{', '.join(names)}\\fR", inline(f"{it.help}.")]
     return told
 
@@ -356,10 +416,15 @@ def tools_commands():
 
     told = []
     for words, does, below in commands_of(tools.parser()):
-        given = [(it.nargs, it.metavar or it.dest) for it in below._actions if not it.option_strings]
+        given = [
+            (it.nargs, it.metavar or it.dest) for it in below._actions if not it.option_strings
+        ]
         usage = [{"?": f"[{name}]", "*": f"[{name}..]"}.get(count, name) for count, name in given]
         head = " ".join([*words, *["[OPTION..]"] * (len(below._actions) > len(usage) + 1), *usage])
-        told += [f".SS {inline(head if words[0] not in passing.COMMANDS else f'{words[0]} ..')}", inline(f"{does}.")]
+        told += [
+            f".SS {inline(head if words[0] not in passing.COMMANDS else f'{words[0]} ..')}",
+            inline(f"{does}."),
+        ]
         told += options_of(below)
     return told
 
@@ -376,7 +441,13 @@ def agent_sections():
     told = [inline("Parameters of the resource:")]
     for it in agent.find("parameters"):
         default = it.find("content").get("default")
-        ends = " Required." if it.get("required") == "1" else f" Default: {default}." if default else ""
+        ends = (
+            " Required."
+            if it.get("required") == "1"
+            else f" Default: {default}."
+            if default
+            else ""
+        )
         told += [".TP", f"\\fB{inline(it.get('name'))}\\fR", inline(f"{long(it)}{ends}")]
     return {"DESCRIPTION": [inline(long(agent))], "OPTIONS": told}
 
@@ -384,13 +455,18 @@ def agent_sections():
 def page(name, version):
     """The page of that name in roff."""
     if name in ALIASES:
-        return f".so man{PAGES[ALIASES[name]].section}/{ALIASES[name]}.{PAGES[ALIASES[name]].section}\n"
+        return (
+            f".so man{PAGES[ALIASES[name]].section}/{ALIASES[name]}.{PAGES[ALIASES[name]].section}"
+            "\n"
+        )
     it = PAGES[name]
     sections = {}
     if it.source:
         with open(f"{ROOT}/docs/{it.source}", encoding="utf-8") as file:
             sections.update(sections_of(GLOSSARY.sub("", file.read())))
-    sections.update((heading, lines) for heading, lines in sections_of(it.added).items() if any(lines))
+    sections.update(
+        (heading, lines) for heading, lines in sections_of(it.added).items() if any(lines)
+    )
     synopsis = it.synopsis.split("\n")
     if not it.synopsis:
         intro = sections["DESCRIPTION"]
@@ -398,14 +474,24 @@ def page(name, version):
         end = next(at for at in range(begun, len(intro)) if not intro[at].startswith("    "))
         synopsis = [line[4:] for line in intro[begun:end]]
         del intro[begun:end]
-    made = {heading: body(lines) for heading, lines in sections.items() if heading not in it.left_out}
-    made["NAME"] = [", ".join(inline(one) for one in (name, *(other for other, of in ALIASES.items() if of == name))) + f" \\- {it.about}"]
+    made = {
+        heading: body(lines) for heading, lines in sections.items() if heading not in it.left_out
+    }
+    made["NAME"] = [
+        ", ".join(
+            inline(one) for one in (name, *(other for other, of in ALIASES.items() if of == name))
+        )
+        + f" \\- {it.about}"
+    ]
     made["SYNOPSIS"] = lines_as_they_are(synopsis)
     if name == TOOLS:
         made["COMMANDS"] = tools_commands()
     if name == AGENT:
         made.update(agent_sections())
-    told = [f'.TH {name.upper()} {it.section} "" "oaut {version}" "{"User Commands" if it.section == 1 else "Resource Agents"}"']
+    told = [
+        f'.TH {name.upper()} {it.section} "" "oaut {version}" '
+        f'"{"User Commands" if it.section == 1 else "Resource Agents"}"'
+    ]
     for heading in ORDER:
         for one in [heading] if heading else [other for other in made if other not in ORDER]:
             told += [f".SH {inline(one)}", *made[one]] if one in made else []
@@ -420,8 +506,19 @@ def pages(version):
 
 
 if __name__ == "__main__":
-    parser = argparse.ArgumentParser(description=__doc__, formatter_class=argparse.RawDescriptionHelpFormatter)
-    parser.add_argument("version", metavar="VERSION", nargs="?", default="0", help="the program's version")
-    parser.add_argument("name", metavar="NAME", nargs="?", choices=sorted({*PAGES, *ALIASES}), default="oaut", help="the page")
+    parser = argparse.ArgumentParser(
+        description=__doc__, formatter_class=argparse.RawDescriptionHelpFormatter
+    )
+    parser.add_argument(
+        "version", metavar="VERSION", nargs="?", default="0", help="the program's version"
+    )
+    parser.add_argument(
+        "name",
+        metavar="NAME",
+        nargs="?",
+        choices=sorted({*PAGES, *ALIASES}),
+        default="oaut",
+        help="the page",
+    )
     given = parser.parse_args()
     sys.stdout.write(page(given.name, given.version))

@@ -1,5 +1,6 @@
-"""The start pages for spreadsheets: a workbook for Excel and one for LibreOffice, each with first steps and a range. Macros put the range into a store and read
-it back. LibreOffice's has its macros in it, too. Each run writes the same bytes.
+"""The start pages for spreadsheets: a workbook for Excel and one for LibreOffice, each with first
+steps and a range. Macros put the range into a store and read it back. LibreOffice's has its macros
+in it, too. Each run writes the same bytes.
 
     python3 dist/sheets.py FOLDER
 """
@@ -11,7 +12,13 @@ from xml.sax.saxutils import escape, quoteattr
 
 ROOT = os.path.dirname(os.path.dirname(os.path.abspath(__file__)))
 MACROS = {"oaut.xlsx": "dist/sheets/excel.bas", "oaut.ods": "dist/sheets/libreoffice.py"}
-RANGE = [["Item", "Count", "Price"], ["tea", 3, 2.5], ["coffee", 4, 3.25], ["cake", 1, 19.99], ["bread", 12, 0.333333333333333]]
+RANGE = [
+    ["Item", "Count", "Price"],
+    ["tea", 3, 2.5],
+    ["coffee", 4, 3.25],
+    ["cake", 1, 19.99],
+    ["bread", 12, 0.333333333333333],
+]
 
 EXCEL = [
     "oaut in Excel: a range of cells in a store",
@@ -21,13 +28,19 @@ EXCEL = [
     "2. Register the server: oautreg window, or  64\\oautreg add Desk localhost:8765 .",
     "3. Alt+F11, Insert, Module: paste the lines of the sheet Macro, column A.",
     "4. Alt+F8: run PutRange. It puts A1:C5 of the sheet Range into the store.",
-    "5. Change some cells, or close Excel. Alt+F8: run GetRange. It writes the store's range to E1:G5.",
+    (
+        "5. Change some cells, or close Excel. Alt+F8: run GetRange. It writes the store's range "
+        "to E1:G5."
+    ),
     "",
     "If something is wrong, a box has the number and the reason. Some that you may see:",
     "429: the class is not registered (step 2), or for programs of other bits.",
     "462: the server is not reached. The text says at which address, and why.",
     "6: a number of a cell is too large. The text names the cell by its indices.",
-    "A cell with a date is put as its number (Value2). A cell with an error, such as #N/A, is put as an error.",
+    (
+        "A cell with a date is put as its number (Value2). A cell with an error, such as #N/A, is "
+        "put as an error."
+    ),
     "To save this file with its macros choose the type .xlsm.",
 ]
 LIBREOFFICE = [
@@ -37,8 +50,14 @@ LIBREOFFICE = [
     [],
     ["1. The server's library is example/table.idl of this folder (com.md, From nothing)."],
     ["2. LibreOffice's Python needs the module oaut (docs/guide/client.md)."],
-    ["3. Allow this file's macros: Tools, Options, LibreOffice, Security, Macro Security, Medium. Open it again."],
-    ["4. Tools, Macros, Run Macro: oaut.ods, oaut_range, put_range. It puts A1:C5 of the sheet Range into the store."],
+    [
+        "3. Allow this file's macros: Tools, Options, LibreOffice, Security, Macro Security, "
+        "Medium. Open it again."
+    ],
+    [
+        "4. Tools, Macros, Run Macro: oaut.ods, oaut_range, put_range. It puts A1:C5 of the sheet "
+        "Range into the store."
+    ],
     ["5. Change some cells, then run get_range. It writes the store's range to E1:G5."],
     [],
     ["Cell A7 of the sheet Range has the result, or the error."],
@@ -77,23 +96,47 @@ TYPES = "application/vnd.openxmlformats-officedocument.spreadsheetml"
 def open_xml(path, seconds):
     """The workbook for Excel."""
     sheets = pages("oaut.xlsx")
-    parts = "".join(f'<Override PartName="/xl/worksheets/sheet{at}.xml" ContentType="{TYPES}.worksheet+xml"/>' for at in range(1, len(sheets) + 1))
-    books = "".join(f'<sheet name={quoteattr(name)} sheetId="{at}" r:id="rId{at}"/>' for at, name in enumerate(sheets, 1))
-    links = "".join(f'<Relationship Id="rId{at}" Type="{KINDS}/worksheet" Target="worksheets/sheet{at}.xml"/>' for at in range(1, len(sheets) + 1))
+    parts = "".join(
+        f'<Override PartName="/xl/worksheets/sheet{at}.xml" ContentType="{TYPES}.worksheet+xml"/>'
+        for at in range(1, len(sheets) + 1)
+    )
+    books = "".join(
+        f'<sheet name={quoteattr(name)} sheetId="{at}" r:id="rId{at}"/>'
+        for at, name in enumerate(sheets, 1)
+    )
+    links = "".join(
+        f'<Relationship Id="rId{at}" Type="{KINDS}/worksheet" Target="worksheets/sheet{at}.xml"/>'
+        for at in range(1, len(sheets) + 1)
+    )
     files = [
         (
             "[Content_Types].xml",
-            f'{HEAD}<Types xmlns="{PACKAGE}/content-types"><Default Extension="rels" ContentType="application/vnd.openxmlformats-package.relationships+xml"/>'
-            f'<Default Extension="xml" ContentType="application/xml"/><Override PartName="/xl/workbook.xml" ContentType="{TYPES}.sheet.main+xml"/>{parts}</Types>',
+            f'{HEAD}<Types xmlns="{PACKAGE}/content-types"><Default Extension="rels" '
+            'ContentType="application/vnd.openxmlformats-package.relationships+xml"/>'
+            '<Default Extension="xml" ContentType="application/xml"/><Override '
+            'PartName="/xl/workbook.xml" '
+            f'ContentType="{TYPES}.sheet.main+xml"/>{parts}</Types>',
         ),
         (
             "_rels/.rels",
-            f'{HEAD}<Relationships xmlns="{PACKAGE}/relationships"><Relationship Id="rId1" Type="{KINDS}/officeDocument" Target="xl/workbook.xml"/></Relationships>',
+            (
+                f'{HEAD}<Relationships xmlns="{PACKAGE}/relationships"><Relationship Id="rId1" '
+                f'Type="{KINDS}/officeDocument" Target="xl/workbook.xml"/></Relationships>'
+            ),
         ),
-        ("xl/workbook.xml", f'{HEAD}<workbook xmlns="{MAIN}" xmlns:r="{KINDS}"><sheets>{books}</sheets></workbook>'),
-        ("xl/_rels/workbook.xml.rels", f'{HEAD}<Relationships xmlns="{PACKAGE}/relationships">{links}</Relationships>'),
+        (
+            "xl/workbook.xml",
+            f'{HEAD}<workbook xmlns="{MAIN}" xmlns:r="{KINDS}"><sheets>{books}</sheets></workbook>',
+        ),
+        (
+            "xl/_rels/workbook.xml.rels",
+            f'{HEAD}<Relationships xmlns="{PACKAGE}/relationships">{links}</Relationships>',
+        ),
     ]
-    files += [(f"xl/worksheets/sheet{at}.xml", worksheet(rows)) for at, rows in enumerate(sheets.values(), 1)]
+    files += [
+        (f"xl/worksheets/sheet{at}.xml", worksheet(rows))
+        for at, rows in enumerate(sheets.values(), 1)
+    ]
     return packed(path, files, seconds)
 
 
@@ -101,11 +144,22 @@ def worksheet(rows):
     def cell(value, at, row):
         place = f"{'ABCDEFG'[at]}{row}"
         if isinstance(value, str):
-            return f'<c r="{place}" t="inlineStr"><is><t xml:space="preserve">{escape(value)}</t></is></c>' if value else ""
+            return (
+                f'<c r="{place}" t="inlineStr"><is><t '
+                f'xml:space="preserve">{escape(value)}</t></is></c>'
+                if value
+                else ""
+            )
         return f'<c r="{place}"><v>{value!r}</v></c>'
 
-    inside = "".join(f'<row r="{row}">{"".join(cell(it, at, row) for at, it in enumerate(cells))}</row>' for row, cells in enumerate(rows, 1))
-    return f'{HEAD}<worksheet xmlns="{MAIN}"><cols><col min="1" max="1" width="24" customWidth="1"/></cols><sheetData>{inside}</sheetData></worksheet>'
+    inside = "".join(
+        f'<row r="{row}">{"".join(cell(it, at, row) for at, it in enumerate(cells))}</row>'
+        for row, cells in enumerate(rows, 1)
+    )
+    return (
+        f'{HEAD}<worksheet xmlns="{MAIN}"><cols><col min="1" max="1" width="24" '
+        f'customWidth="1"/></cols><sheetData>{inside}</sheetData></worksheet>'
+    )
 
 
 # --- OpenDocument (OASIS 1.2)
@@ -118,14 +172,36 @@ def open_document(path, seconds):
     """The workbook for LibreOffice, its macros in it."""
     tables = "".join(table(name, rows) for name, rows in pages("oaut.ods").items())
     spaces = " ".join(f'xmlns:{it}="{NAMES}:{it}:1.0"' for it in ("office", "table", "text"))
-    content = f'<office:document-content {spaces} office:version="1.2"><office:body><office:spreadsheet>{tables}</office:spreadsheet></office:body></office:document-content>'
-    listed = {"/": SPREADSHEET, "content.xml": "text/xml", "Scripts/": "", "Scripts/python/": "", "Scripts/python/oaut_range.py": ""}
-    entries = "".join(f"<manifest:file-entry manifest:full-path={quoteattr(it)} manifest:media-type={quoteattr(kind)}/>" for it, kind in listed.items())
-    manifest = f'<manifest:manifest xmlns:manifest="{NAMES}:manifest:1.0" manifest:version="1.2">{entries}</manifest:manifest>'
+    content = (
+        f"<office:document-content {spaces} "
+        f'office:version="1.2"><office:body><office:spreadsheet>{tables}</office:spreadsheet></'
+        "office:body></office:document-content>"
+    )
+    listed = {
+        "/": SPREADSHEET,
+        "content.xml": "text/xml",
+        "Scripts/": "",
+        "Scripts/python/": "",
+        "Scripts/python/oaut_range.py": "",
+    }
+    entries = "".join(
+        f"<manifest:file-entry manifest:full-path={quoteattr(it)} "
+        f"manifest:media-type={quoteattr(kind)}/>"
+        for it, kind in listed.items()
+    )
+    manifest = (
+        f'<manifest:manifest xmlns:manifest="{NAMES}:manifest:1.0" '
+        f'manifest:version="1.2">{entries}</manifest:manifest>'
+    )
     with open(f"{ROOT}/{MACROS['oaut.ods']}", encoding="utf-8") as file:
         macro = file.read()
     head = '<?xml version="1.0" encoding="UTF-8"?>\n'
-    files = [("mimetype", SPREADSHEET), ("content.xml", head + content), ("Scripts/python/oaut_range.py", macro), ("META-INF/manifest.xml", head + manifest)]
+    files = [
+        ("mimetype", SPREADSHEET),
+        ("content.xml", head + content),
+        ("Scripts/python/oaut_range.py", macro),
+        ("META-INF/manifest.xml", head + manifest),
+    ]
     return packed(path, files, seconds)
 
 
@@ -135,10 +211,16 @@ def table(name, rows):
             # blanks at the beginning would else be one
             blanks = len(value) - len(value.lstrip(" "))
             spaces = f'<text:s text:c="{blanks}"/>' if blanks else ""
-            return f'<table:table-cell office:value-type="string"><text:p>{spaces}{escape(value.lstrip(" "))}</text:p></table:table-cell>'
+            return (
+                f'<table:table-cell office:value-type="string"><text:p>{spaces}'
+                f'{escape(value.lstrip(" "))}</text:p></table:table-cell>'
+            )
         return f'<table:table-cell office:value-type="float" office:value="{value!r}"/>'
 
-    inside = "".join(f'<table:table-row>{"".join(map(cell, row)) or "<table:table-cell/>"}</table:table-row>' for row in rows)
+    inside = "".join(
+        f'<table:table-row>{"".join(map(cell, row)) or "<table:table-cell/>"}</table:table-row>'
+        for row in rows
+    )
     return f"<table:table table:name={quoteattr(name)}>{inside}</table:table>"
 
 

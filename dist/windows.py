@@ -1,5 +1,6 @@
-"""Makes the packages for Windows: a .zip, and an .msi by msitools' wixl, of the COM bridge for 64 and 32 bits. The .msi installs on a Windows of either, for
-one user, without administrator rights. Uninstalling it unregisters everything that its tools have registered."""
+"""Makes the packages for Windows: a .zip, and an .msi by msitools' wixl, of the COM bridge for 64
+and 32 bits. The .msi installs on a Windows of either, for one user, without administrator rights.
+Uninstalling it unregisters everything that its tools have registered."""
 import os
 import shutil
 import struct
@@ -12,7 +13,11 @@ from xml.sax.saxutils import quoteattr
 
 ROOT = os.path.dirname(os.path.dirname(os.path.abspath(__file__)))
 PROGRAMS = ("oautcom.dll", "oautreg.exe", "tlb2idl.exe")
-PAGES = {"START.txt": "dist/windows/START.txt", "com.md": "docs/guide/com.md", "import.md": "docs/guide/import.md"}
+PAGES = {
+    "START.txt": "dist/windows/START.txt",
+    "com.md": "docs/guide/com.md",
+    "import.md": "docs/guide/import.md",
+}
 EXAMPLES = ("sheet.idl", "sheet.vbs", "prices.vbs", "table.idl")
 # the start pages that dist/sheets.py makes beside what is built
 SHEETS = ("oaut.xlsx", "oaut.ods")
@@ -23,18 +28,37 @@ UPGRADE = uuid.UUID("3f0c6f8a-92d1-4f55-8a8e-6f6175740001")
 
 
 def files_of(built):
-    """The files by their places in the folder that is installed, of what was built: a folder with 64, 32 and start in it."""
-    found = {f"{bits}/{it}": f"{built}/{bits}/{it}" for bits in ("64", "32") for it in PROGRAMS if os.path.exists(f"{built}/{bits}/{it}")}
+    """The files by their places in the folder that is installed, of what was built: a folder with
+    64, 32 and start in it."""
+    found = {
+        f"{bits}/{it}": f"{built}/{bits}/{it}"
+        for bits in ("64", "32")
+        for it in PROGRAMS
+        if os.path.exists(f"{built}/{bits}/{it}")
+    }
     found.update({name: f"{ROOT}/{it}" for name, it in PAGES.items()})
     found.update({f"example/{it}": f"{ROOT}/clients/com/example/{it}" for it in EXAMPLES})
-    found.update({f"start/{it}": f"{built}/start/{it}" for it in SHEETS if os.path.exists(f"{built}/start/{it}")})
+    found.update(
+        {
+            f"start/{it}": f"{built}/start/{it}"
+            for it in SHEETS
+            if os.path.exists(f"{built}/start/{it}")
+        }
+    )
     # the licence that the owner decides on, if any
-    found.update({f"{it}.txt": f"{ROOT}/{it}" for it in ("LICENSE", "LICENCE", "COPYING") if os.path.exists(f"{ROOT}/{it}")})
+    found.update(
+        {
+            f"{it}.txt": f"{ROOT}/{it}"
+            for it in ("LICENSE", "LICENCE", "COPYING")
+            if os.path.exists(f"{ROOT}/{it}")
+        }
+    )
     return found
 
 
 def content_of(name, source):
-    """The bytes that are installed of a file. A page has Windows' ends of lines: without them older editors show one long line."""
+    """The bytes that are installed of a file. A page has Windows' ends of lines: without them older
+    editors show one long line."""
     with open(source, "rb") as file:
         content = file.read()
     return content.replace(b"\n", b"\r\n") if name in PAGES else content
@@ -68,7 +92,13 @@ def installer(built, version, seconds, folder):
         # (a package of 64 bits would be refused on a Windows of 32)
         words = ["wixl", "--arch", "x86", "-o", os.path.abspath(path), "oaut.wxs"]
         # (the cabinet has the files' times as local ones)
-        subprocess.run(words, check=True, cwd=room, env={**os.environ, "TZ": "UTC", "SOURCE_DATE_EPOCH": str(seconds)}, stdout=subprocess.DEVNULL)
+        subprocess.run(
+            words,
+            check=True,
+            cwd=room,
+            env={**os.environ, "TZ": "UTC", "SOURCE_DATE_EPOCH": str(seconds)},
+            stdout=subprocess.DEVNULL,
+        )
     with open(path, "r+b") as file:
         content = bytearray(file.read())
         settle(content, seconds, f"{{{uuid.uuid5(UPGRADE, 'package ' + version)}}}".upper())
@@ -84,7 +114,8 @@ FROM_1601 = 11_644_473_600
 
 
 def settle(content, seconds, code):
-    """Gives an installer's summary this time and package code: wixl takes the clock and a number by chance, so that no two runs give the same bytes."""
+    """Gives an installer's summary this time and package code: wixl takes the clock and a number by
+    chance, so that no two runs give the same bytes."""
     places = stream_places(content, "\x05SummaryInformation")
     summary = bytearray(content[it] for it in places)
     if summary[28:44] != SUMMARY:
@@ -124,7 +155,11 @@ def stream_places(content, name):
             sector = links[sector]
 
     def bytes_of(sector):
-        return [place for it in chain(sector, table) for place in range((it + 1) * size, (it + 2) * size)]
+        return [
+            place
+            for it in chain(sector, table)
+            for place in range((it + 1) * size, (it + 2) * size)
+        ]
 
     entries = bytes_of(directory)
     root = None
@@ -138,40 +173,65 @@ def stream_places(content, name):
         if many >= cutoff:
             return bytes_of(sector)[:many]
         within = bytes_of(struct.unpack_from("<I", root, 116)[0])
-        links = [it for one in chain(mini_table, table) for it in struct.unpack_from(f"<{size // 4}I", content, (one + 1) * size)]
-        return [place for it in chain(sector, links) for place in within[it * mini_size : (it + 1) * mini_size]][:many]
+        links = [
+            it
+            for one in chain(mini_table, table)
+            for it in struct.unpack_from(f"<{size // 4}I", content, (one + 1) * size)
+        ]
+        return [
+            place
+            for it in chain(sector, links)
+            for place in within[it * mini_size : (it + 1) * mini_size]
+        ][:many]
     raise ValueError(f"the installer has no stream {name!r}")
 
 
 def described(names, version):
-    """The installation as wixl reads it. The unregistering actions have numbers between RemoveShortcuts, 3200, and RemoveFiles, 3500: from `Before` alone wixl
-    sometimes makes the number 1, which is too early for a deferred action. One of them runs: that of the system's bits, whose tool runs the other one. None runs
-    when a later version takes the place of this one: what is registered then leads to the new files."""
+    """The installation as wixl reads it. The unregistering actions have numbers between
+    RemoveShortcuts, 3200, and RemoveFiles, 3500: from `Before` alone wixl sometimes makes the
+    number 1, which is too early for a deferred action. One of them runs: that of the system's bits,
+    whose tool runs the other one. None runs when a later version takes the place of this one: what
+    is registered then leads to the new files."""
     numbers = ".".join((version.partition("-")[0].split(".") + ["0", "0"])[:3])
     ids = {name: "f" + uuid.uuid5(UPGRADE, name).hex for name in names}
     folders = {}
     for name in names:
         folders.setdefault(os.path.dirname(name), []).append(name)
-    inside = "".join(component(folder, folders[folder], ids) for folder in sorted(folders) if not folder)
+    inside = "".join(
+        component(folder, folders[folder], ids) for folder in sorted(folders) if not folder
+    )
     inside += "".join(
-        f'<Directory Id="d{folder}" Name={quoteattr(folder)}>{component(folder, folders[folder], ids)}</Directory>' for folder in sorted(folders) if folder
+        f'<Directory Id="d{folder}" Name={quoteattr(folder)}>'
+        f"{component(folder, folders[folder], ids)}</Directory>"
+        for folder in sorted(folders)
+        if folder
     )
     parts = "".join(f'<ComponentRef Id="c{folder or "top"}"/>' for folder in sorted(folders))
-    tools = [(bits, ids[f"{bits}/oautreg.exe"]) for bits in CONDITIONS if f"{bits}/oautreg.exe" in ids]
+    tools = [
+        (bits, ids[f"{bits}/oautreg.exe"]) for bits in CONDITIONS if f"{bits}/oautreg.exe" in ids
+    ]
     actions = "".join(
-        f'<CustomAction Id="Unregister{bits}" FileKey="{tool}" ExeCommand="remove --all" Execute="deferred" Return="ignore"/>' for bits, tool in tools
+        f'<CustomAction Id="Unregister{bits}" FileKey="{tool}" ExeCommand="remove --all" '
+        'Execute="deferred" Return="ignore"/>'
+        for bits, tool in tools
     )
     steps = "".join(
-        f'<Custom Action="Unregister{bits}" Sequence="34{bits}">REMOVE="ALL" AND NOT UPGRADINGPRODUCTCODE AND {CONDITIONS[bits]}</Custom>' for bits, _ in tools
+        f'<Custom Action="Unregister{bits}" Sequence="34{bits}">REMOVE="ALL" AND NOT '
+        f"UPGRADINGPRODUCTCODE AND {CONDITIONS[bits]}</Custom>"
+        for bits, _ in tools
     )
     return f"""<?xml version="1.0" encoding="utf-8"?>
 <Wix xmlns="http://schemas.microsoft.com/wix/2006/wi">
-  <Product Id="{uuid.uuid5(UPGRADE, version)}" UpgradeCode="{UPGRADE}" Name="oaut {version}" Version="{numbers}" Language="1033" Manufacturer="oaut">
-    <Package Id="{uuid.uuid5(UPGRADE, "package " + version)}" InstallerVersion="200" Compressed="yes" InstallScope="perUser" Description="oaut {version}"/>
-    <MajorUpgrade DowngradeErrorMessage="A later version of oaut is installed: uninstall it first."/>
+  <Product Id="{uuid.uuid5(UPGRADE, version)}" UpgradeCode="{UPGRADE}" Name="oaut {version}" \
+Version="{numbers}" Language="1033" Manufacturer="oaut">
+    <Package Id="{uuid.uuid5(UPGRADE, "package " + version)}" InstallerVersion="200" \
+Compressed="yes" InstallScope="perUser" Description="oaut {version}"/>
+    <MajorUpgrade DowngradeErrorMessage="A later version of oaut is installed: uninstall it \
+first."/>
     <Media Id="1" Cabinet="oaut.cab" EmbedCab="yes"/>
     <Directory Id="TARGETDIR" Name="SourceDir">
-      <Directory Id="LocalAppDataFolder"><Directory Id="Programs" Name="Programs"><Directory Id="INSTALLDIR" Name="oaut">{inside}</Directory></Directory></Directory>
+      <Directory Id="LocalAppDataFolder"><Directory Id="Programs" Name="Programs"><Directory \
+Id="INSTALLDIR" Name="oaut">{inside}</Directory></Directory></Directory>
       <Directory Id="ProgramMenuFolder" Name="Programs"/>
     </Directory>
     {actions}
@@ -187,11 +247,23 @@ def component(folder, names, ids):
     files = ""
     for at, name in enumerate(names):
         key = ' KeyPath="yes"' if at == 0 else ""
-        files += f'<File Id="{ids[name]}" Name={quoteattr(os.path.basename(name))} Source={quoteattr(name)}{key}/>'
+        files += (
+            f'<File Id="{ids[name]}" Name={quoteattr(os.path.basename(name))} '
+            f"Source={quoteattr(name)}{key}/>"
+        )
     # the tool of 32 bits runs on every Windows
     if folder == ("32" if "32/oautreg.exe" in ids else "64"):
         target = f"[INSTALLDIR]{folder}\\oautreg.exe"
-        files += f'<Shortcut Id="tool" Directory="ProgramMenuFolder" Name="oaut servers" Target="{target}" Arguments="window" WorkingDirectory="INSTALLDIR"/>'
+        files += (
+            '<Shortcut Id="tool" Directory="ProgramMenuFolder" Name="oaut servers" '
+            f'Target="{target}" Arguments="window" WorkingDirectory="INSTALLDIR"/>'
+        )
     if "START.txt" in names:
-        files += '<Shortcut Id="menu" Directory="ProgramMenuFolder" Name="oaut" Target="[INSTALLDIR]START.txt" WorkingDirectory="INSTALLDIR"/>'
-    return f'<Component Id="c{folder or "top"}" Guid="{uuid.uuid5(UPGRADE, "component " + folder)}">{files}</Component>'
+        files += (
+            '<Shortcut Id="menu" Directory="ProgramMenuFolder" Name="oaut" '
+            'Target="[INSTALLDIR]START.txt" WorkingDirectory="INSTALLDIR"/>'
+        )
+    return (
+        f'<Component Id="c{folder or "top"}" '
+        f'Guid="{uuid.uuid5(UPGRADE, "component " + folder)}">{files}</Component>'
+    )

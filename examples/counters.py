@@ -1,7 +1,8 @@
 #!/usr/bin/env python3
 """Keeps totals of a machine's network counters in a server, in rounds of a second, and prints them.
 
-    PYTHONPATH=clients/python python3 examples/counters.py [--program PROGRAM] [--store STORE] [--rounds N] [FILE]
+    PYTHONPATH=clients/python python3 examples/counters.py [--program PROGRAM] [--store STORE]
+        [--rounds N] [FILE]
 
 Default of FILE: /proc/net/dev. A machine counts from 0 again when it starts; a total goes on from
 there. With STORE, a file that is created if it does not exist, the totals survive a crash of this
@@ -36,7 +37,8 @@ def session(program, store):
 
 
 def found(server):
-    """The counters that the server has already, by their names. One whose making was stopped before its name was put is given up."""
+    """The counters that the server has already, by their names. One whose making was stopped before
+    its name was put is given up."""
     counters = server.objects()
     with server.batch():
         names = [it.Name for it in counters]

@@ -1,14 +1,18 @@
 #!/usr/bin/env python3
-"""Serves clients one after another: the next one that has sent something waits until the one before has gone.
+"""Serves clients one after another: the next one that has sent something waits until the one before
+has gone.
 
     examples/one_at_a_time.py --listen /tmp/oaut.socket --idle 600 oaut serve items.store items.idl
-    systemd-socket-activate -l /tmp/oaut.socket examples/one_at_a_time.py oaut serve items.store items.idl
+    systemd-socket-activate -l /tmp/oaut.socket examples/one_at_a_time.py oaut serve items.store
+        items.idl
 
-The words are those of the program that each client gets. It listens at HOST:PORT or at the path of a socket, for this user alone; without
---listen at the socket that systemd hands over with `Accept=no`, as descriptor 3. A client gets its turn when it sends its
-first byte, so silent clients delay nobody. A client that sends nothing for so many seconds, or does not read its replies, is disconnected;
-its acknowledged writes stay. For each client a line on standard error has its address, the time of its turn, the number of its requests and
-the program's status. The script survives any end of a client's connection.
+The words are those of the program that each client gets. It listens at HOST:PORT or at the path of
+a socket, for this user alone; without
+--listen at the socket that systemd hands over with `Accept=no`, as descriptor 3. A client gets its
+turn when it sends its first byte, so silent clients delay nobody. A client that sends nothing for
+so many seconds, or does not read its replies, is disconnected; its acknowledged writes stay. For
+each client a line on standard error has its address, the time of its turn, the number of its
+requests and the program's status. The script survives any end of a client's connection.
 """
 import argparse
 import collections
@@ -27,7 +31,9 @@ import sys
 import threading
 import time
 
-WAITING = 1_000  # clients that may be connected and not served yet: above it the one that has been silent longest is let go
+# clients that may be connected and not served yet: above it the one that has been silent longest is
+# let go
+WAITING = 1_000
 
 
 class Requests:
@@ -55,16 +61,20 @@ class Requests:
 
 
 class Client:
-    """A connection, and who it is in words: as it was accepted, since one that has gone is not told by the system any more."""
+    """A connection, and who it is in words: as it was accepted, since one that has gone is not told
+    by the system any more."""
 
     def __init__(self, sock, address, idle):
         self.sock, self.since = sock, time.monotonic()
         if sock.family == socket.AF_UNIX:
-            process, user, _ = struct.unpack("3i", sock.getsockopt(socket.SOL_SOCKET, socket.SO_PEERCRED, 12))
+            process, user, _ = struct.unpack(
+                "3i", sock.getsockopt(socket.SOL_SOCKET, socket.SO_PEERCRED, 12)
+            )
             self.name = f"process {process} of user {user}"
         else:
             self.name = "%s port %s" % address[:2]
-        # how long it is waited for, by the program too, which writes its replies to it (a timeout of Python's would make it one that never waits)
+        # how long it is waited for, by the program too, which writes its replies to it (a timeout
+        # of Python's would make it one that never waits)
         until = struct.pack("ll", int(idle), int(idle % 1 * 1_000_000))
         sock.setsockopt(socket.SOL_SOCKET, socket.SO_RCVTIMEO, until)
         sock.setsockopt(socket.SOL_SOCKET, socket.SO_SNDTIMEO, until)
@@ -111,7 +121,10 @@ def session(client, words, idle):
             end = f", connection lost: {error.strerror}"
         child.stdin.close()
         status = child.wait()
-    return f"{client.name}: {time.monotonic() - begun:.1f} s, {seen.count} requests, status {status}{end}"
+    return (
+        f"{client.name}: {time.monotonic() - begun:.1f} s, {seen.count} requests, status "
+        f"{status}{end}"
+    )
 
 
 def turns(ready, words, idle):
@@ -133,7 +146,8 @@ def gone(client):
 
 
 def accept(listening, idle):
-    """The next client. An error that belongs to a client which has gone in the meantime is no client."""
+    """The next client. An error that belongs to a client which has gone in the meantime is no
+    client."""
     try:
         sock, address = listening.accept()
     except BlockingIOError:
@@ -195,10 +209,15 @@ def serve(listening, words, idle):
 
 
 def listener(place):
-    """A socket that listens at HOST:PORT, or at a path, in the place of one that nobody listens at any more."""
+    """A socket that listens at HOST:PORT, or at a path, in the place of one that nobody listens at
+    any more."""
     host, colon, port = place.rpartition(":")
     if colon and "/" not in place:
-        return socket.create_server((host.strip("[]"), int(port)), family=socket.AF_INET6 if host.startswith("[") else socket.AF_INET, backlog=WAITING)
+        return socket.create_server(
+            (host.strip("[]"), int(port)),
+            family=socket.AF_INET6 if host.startswith("[") else socket.AF_INET,
+            backlog=WAITING,
+        )
     listening = socket.socket(socket.AF_UNIX)
     if os.path.exists(place) and stat.S_ISSOCK(os.stat(place).st_mode):
         try:
@@ -219,20 +238,39 @@ def allow_files(count):
     try:
         now, most = resource.getrlimit(resource.RLIMIT_NOFILE)
         if 0 <= now < count:
-            resource.setrlimit(resource.RLIMIT_NOFILE, (min(count, most) if most >= 0 else count, most))
+            resource.setrlimit(
+                resource.RLIMIT_NOFILE, (min(count, most) if most >= 0 else count, most)
+            )
     except (OSError, ValueError):
         pass  # (in a unit that may not, LimitNOFILE= does it)
 
 
 def main():
-    parser = argparse.ArgumentParser(description=__doc__, formatter_class=argparse.RawDescriptionHelpFormatter)
+    parser = argparse.ArgumentParser(
+        description=__doc__, formatter_class=argparse.RawDescriptionHelpFormatter
+    )
     parser.add_argument("--listen", metavar="PLACE", help="HOST:PORT, or the path of a socket")
-    parser.add_argument("--idle", type=float, default=600, metavar="SECONDS", help="how long a client may be silent (600)")
-    parser.add_argument("words", nargs=argparse.REMAINDER, metavar="PROGRAM WORD..", help="the program, and its words")
+    parser.add_argument(
+        "--idle",
+        type=float,
+        default=600,
+        metavar="SECONDS",
+        help="how long a client may be silent (600)",
+    )
+    parser.add_argument(
+        "words",
+        nargs=argparse.REMAINDER,
+        metavar="PROGRAM WORD..",
+        help="the program, and its words",
+    )
     given = parser.parse_args()
-    handed = os.environ.get("LISTEN_FDS") == "1" and os.environ.get("LISTEN_PID") == str(os.getpid())
+    handed = os.environ.get("LISTEN_FDS") == "1" and os.environ.get("LISTEN_PID") == str(
+        os.getpid()
+    )
     if not given.words or not (given.listen or handed) or not 0 < given.idle < 1e9:
-        parser.error("a place to listen at, or one listening socket of systemd, and the words of a program")
+        parser.error(
+            "a place to listen at, or one listening socket of systemd, and the words of a program"
+        )
     if shutil.which(given.words[0]) is None:
         parser.error(f"there is no program {given.words[0]}")
     for it in (signal.SIGTERM, signal.SIGINT):

@@ -3,14 +3,17 @@
 
     python3 tools/cases.py [--program PATH] [-k NAME].. [PART ..]
 
-Default of PATH: crates/oaut/out/oaut, as `rt ci` leaves it. `-k NAME` runs the tests whose names have NAME in them, `PART` those of one
-file; `--list` prints the names. A test whose tools are not installed is left out, with a line that names it and them. Each part gets a line with its
-seconds; the last line counts all cases, and the tests that were left out by their reasons; the status is 1 if one failed. A test that takes longer
-than 45 minutes ends all, with a line for the place of each of its threads.
+Default of PATH: crates/oaut/out/oaut, as `rt ci` leaves it. `-k NAME` runs the tests whose names
+have NAME in them, `PART` those of one file; `--list` prints the names. A test whose tools are not
+installed is left out, with a line that names it and them. Each part gets a line with its seconds;
+the last line counts all cases, and the tests that were left out by their reasons; the status is 1
+if one failed. If the program is not built, the parts that need none run, and the status is 2. A
+test that takes longer than 45 minutes ends all, with a line for the place of each of its threads.
 
-With `--again N`, up to N tests that failed run again after all others, when nothing else runs, at most twice. The function `anew` of a file that has one sees
-to it that they meet nothing of what ran before. One that then passes counts as passed, and a line `unstable TEST` reports it. No further run excuses a test of
-the program, or of a part that looks for lost or changed data.
+With `--again N`, up to N tests that failed run again after all others, when nothing else runs, at
+most twice. The function `anew` of a file that has one sees to it that they meet nothing of what ran
+before. One that then passes counts as passed, and a line `unstable TEST` reports it. No further run
+excuses a test of the program, or of a part that looks for lost or changed data.
 """
 import argparse
 import collections
@@ -24,9 +27,26 @@ import time
 import unittest
 
 ROOT = os.path.dirname(os.path.dirname(os.path.abspath(__file__)))
-FOLDERS = sorted(glob.glob(f"{ROOT}/tests/*/"))
+# a part's name, and its module
+PARTS = {
+    it.rpartition(".test_")[2]: it
+    for it in (
+        os.path.relpath(path, ROOT)[: -len(".py")].replace("/", ".")
+        for path in sorted(glob.glob(f"{ROOT}/tests/*/test_*.py"))
+    )
+}
+# the parts that need no program
+PROGRAMLESS = {"docs", "figures", "style"}
 # the parts outside tests/program that look for lost or changed data
-ONCE = {"client_forks", "client_interrupts", "com_kills", "gateway_histories", "haproxy_stores", "many_stores", "upgrading"}
+ONCE = {
+    "client_forks",
+    "client_interrupts",
+    "com_kills",
+    "gateway_histories",
+    "haproxy_stores",
+    "many_stores",
+    "upgrading",
+}
 # the seconds that a test may take: the longest takes a fiftieth of them
 LONGEST = 2_700
 # how often a test that failed may run again
@@ -34,7 +54,8 @@ FURTHER = 2
 
 
 class Counts(unittest.TestResult):
-    """Counts the cases: each sub-test, and each test that has none. Failures are printed at once."""
+    """Counts the cases: each sub-test, and each test that has none. Failures are printed at
+    once."""
 
     def __init__(self):
         super().__init__()
@@ -80,7 +101,11 @@ class Counts(unittest.TestResult):
         self.failed += 1
         self.failed_in[getattr(test, "test_case", test).id()] += 1
         kind, what, _ = err
-        said = str(what) if failure and issubclass(kind, failure) else self._exc_info_to_string(err, test)
+        said = (
+            str(what)
+            if failure and issubclass(kind, failure)
+            else self._exc_info_to_string(err, test)
+        )
         print(f"FAILED {named(test)}: {said}", flush=True)
 
 
@@ -94,20 +119,26 @@ def named(test):
     case = getattr(test, "test_case", None)
     if case is None:
         return test.id()
-    return f"{case.id()}: {test._message if isinstance(test._message, str) else test._subDescription()}"
+    return (
+        f"{case.id()}: "
+        f"{test._message if isinstance(test._message, str) else test._subDescription()}"
+    )
 
 
 def parts_of(words):
     """The parts that are named, or all."""
-    found = sorted(os.path.basename(it)[len("test_") : -len(".py")] for it in glob.glob(f"{ROOT}/tests/*/test_*.py"))
-    unknown = {*words} - {*found}
+    unknown = {*words} - {*PARTS}
     if unknown:
-        raise SystemExit(f"cases.py: no part is named {', '.join(sorted(unknown))}; there are {', '.join(found)}")
-    return [it for it in found if it in (words or found)]
+        raise SystemExit(
+            f"cases.py: no part is named {', '.join(sorted(unknown))}; there are "
+            f"{', '.join(sorted(PARTS))}"
+        )
+    return [it for it in sorted(PARTS) if it in (words or PARTS)]
 
 
 def run_again(loader, failed_in):
-    """Runs failed tests again, and returns how many of their cases failed that are now known to pass, and the names of these tests."""
+    """Runs failed tests again, and returns how many of their cases failed that are now known to
+    pass, and the names of these tests."""
     excused, names = 0, []
     for name, cases in failed_in.items():
         for _ in range(FURTHER):
@@ -125,15 +156,18 @@ def run_again(loader, failed_in):
 
 
 def class_of(name):
-    """The class whose setup failed, if the name is that of such an error. All of its tests run again."""
+    """The class whose setup failed, if the name is that of such an error. All of its tests run
+    again."""
     found = re.fullmatch(r"setUpClass \((\S+)\)", name)
     return found and found[1]
 
 
 def may_run_again(name):
-    """Whether a further run may excuse a failed test, or setup of a class. An error in the setup of a file has a name of another form: it may not."""
-    module = sys.modules.get((class_of(name) or name).split(".")[0])
-    return module is not None and os.path.basename(os.path.dirname(module.__file__)) != "program" and module.__name__[len("test_") :] not in ONCE
+    """Whether a further run may excuse a failed test, or setup of a class. An error in the setup of
+    a file has a name of another form: it may not."""
+    module = ".".join((class_of(name) or name).split(".")[:3])
+    may = {it for part, it in PARTS.items() if part not in ONCE}
+    return module in may and not module.startswith("tests.program.")
 
 
 def tests_of(suite):
@@ -145,7 +179,8 @@ def tests_of(suite):
 
 
 def keep_freed_memory():
-    """Has the C library keep what is freed. A store has 75 MB, and otherwise the system would allocate the pages of each new one, one by one."""
+    """Has the C library keep what is freed. A store has 75 MB, and otherwise the system would
+    allocate the pages of each new one, one by one."""
     mallopt = getattr(ctypes.CDLL(None), "mallopt", None)
     if mallopt:
         M_TRIM_THRESHOLD, M_MMAP_MAX = -1, -4
@@ -154,12 +189,24 @@ def keep_freed_memory():
 
 
 def main():
-    parser = argparse.ArgumentParser(description=__doc__, formatter_class=argparse.RawDescriptionHelpFormatter)
+    parser = argparse.ArgumentParser(
+        description=__doc__, formatter_class=argparse.RawDescriptionHelpFormatter
+    )
     parser.add_argument("--program", metavar="PATH", help="the program")
-    parser.add_argument("-k", metavar="NAME", action="append", dest="names", help="tests with this in their names")
+    parser.add_argument(
+        "-k", metavar="NAME", action="append", dest="names", help="tests with this in their names"
+    )
     parser.add_argument("--list", action="store_true", help="print the names of the tests")
-    parser.add_argument("--again", metavar="N", type=int, default=0, help="run failed tests again if they are at most N (default: 0)")
-    parser.add_argument("--sessions", nargs=2, metavar=("FIRST", "COUNT"), help="the seeds of the part `random`")
+    parser.add_argument(
+        "--again",
+        metavar="N",
+        type=int,
+        default=0,
+        help="run failed tests again if they are at most N (default: 0)",
+    )
+    parser.add_argument(
+        "--sessions", nargs=2, metavar=("FIRST", "COUNT"), help="the seeds of the part `random`"
+    )
     parser.add_argument("--kills", metavar="N", help="how often the part `kills` kills")
     parser.add_argument("--seed", metavar="S", help="from which seed")
     parser.add_argument("parts", nargs="*", metavar="PART")
@@ -171,18 +218,23 @@ def main():
         "OAUT_SEED": given.seed,
     }
     os.environ.update({name: it for name, it in told.items() if it})
+    parts, missing = parts_of(given.parts), None
     program = os.environ.get("OAUT_PROGRAM") or f"{ROOT}/crates/oaut/out/oaut"
-    pages = {os.path.basename(it)[len("test_") : -len(".py")] for it in glob.glob(f"{ROOT}/tests/pages/test_*.py")}
-    if not given.list and not os.path.exists(program) and not (given.parts and {*given.parts} <= pages):
-        raise SystemExit(f"{program} does not exist: `(cd crates/oaut && rt run -- --version)` builds it, or name another with --program")
-    sys.path[:0] = FOLDERS
+    if not given.list and not os.path.exists(program) and not {*parts} <= PROGRAMLESS:
+        missing = f"{program} is not there" if given.program else "build it first: rt ci oaut"
+        parts = [it for it in parts if it in PROGRAMLESS]
+    if missing and not parts:
+        print(missing, file=sys.stderr)
+        return 2
+    # (instead of this file's folder, since tests and tools are packages)
+    sys.path[0] = ROOT
     keep_freed_memory()
     loader = unittest.TestLoader()
     loader.testNamePatterns = [it if "*" in it else f"*{it}*" for it in given.names or []] or None
     passed = failed = left = 0
     reasons, failed_in = collections.Counter(), collections.Counter()
-    for part in parts_of(given.parts):
-        suite = loader.loadTestsFromName(f"test_{part}")
+    for part in parts:
+        suite = loader.loadTestsFromName(PARTS[part])
         if not suite.countTestCases():
             continue
         if given.list:
@@ -192,8 +244,16 @@ def main():
         watch()
         suite.run(counts)
         faulthandler.cancel_dump_traceback_later()
-        print(f"{part}: {counts.passed} passed, {counts.failed} failed, {len(counts.skipped)} tests left out, {time.monotonic() - begun:.1f} s", flush=True)
-        passed, failed, left = passed + counts.passed, failed + counts.failed, left + len(counts.skipped)
+        print(
+            f"{part}: {counts.passed} passed, {counts.failed} failed, {len(counts.skipped)} tests "
+            f"left out, {time.monotonic() - begun:.1f} s",
+            flush=True,
+        )
+        passed, failed, left = (
+            passed + counts.passed,
+            failed + counts.failed,
+            left + len(counts.skipped),
+        )
         reasons.update(reason for _, reason in counts.skipped)
         failed_in.update(counts.failed_in)
     if given.list:
@@ -204,6 +264,9 @@ def main():
         print("".join(f"unstable {name}\n" for name in unstable), end="")
     why = "; ".join(f"{count}: {reason}" for reason, count in sorted(reasons.items()))
     print(f"{passed} passed, {failed} failed, {left} tests left out{why and f' ({why})'}")
+    if missing:
+        print(missing, file=sys.stderr)
+        return 2
     return 1 if failed or not passed else 0
 
 

@@ -1,10 +1,12 @@
 #!/usr/bin/env python3
-"""Builds the proved library that the gateway links, crates/oa_gateway_c/out/liboa_gateway_c.a. Needs Rattle's toolchain.
+"""Builds the proved library that the gateway links, crates/oa_gateway_c/out/liboa_gateway_c.a.
+Needs Rattle's toolchain.
 
     python3 tools/gateway_library.py
 
-The crates below are used as `rt ci` has proved them, if that is newer than their sources. A crate that is lacking is proved first, which takes minutes.
-(`rt lib` in crates/oa_gateway_c makes the same library, and proves all of them again.)
+The crates below are used as `rt ci` has proved them, if that is newer than their sources. A crate
+that is lacking is proved first, which takes minutes. (`rt lib` in crates/oa_gateway_c makes the
+same library, and proves all of them again.)
 """
 import os
 import sys

@@ -1,14 +1,19 @@
 #!/usr/bin/env python3
-"""Mutation testing of the gateway: makes mutants of clients/gateway/*.c, and runs tests over each until one fails.
+"""Mutation testing of the gateway: makes mutants of clients/gateway/*.c, and runs tests over each
+until one fails.
 
-    python3 tools/gateway_mutants.py [--program PATH] [--count N] [--seed S] [--jobs N] [--table FILE] [--before FILE] [-k TEXT].. [--list]
+    python3 tools/gateway_mutants.py [--program PATH] [--count N] [--seed S] [--jobs N] [--table
+        FILE] [--before FILE] [-k TEXT].. [--list]
 
-A mutant is one edit: a bound that is one off, a negated condition, a swapped branch, another client, a statement that is left out, a changed constant. `--count` of
-them are drawn (200), spread over all files. The edits of tools/gateway_edits.py, made by hand, are tried first. Files that do not change are compiled once. A mutant
-that does not compile, or compiles to the program that it was made of, does not count. Tests that fail over the sources as they are, are printed and left out.
+A mutant is one edit: a bound that is one off, a negated condition, a swapped branch, another
+client, a statement that is left out, a changed constant. `--count` of them are drawn (200), spread
+over all files. The edits of tools/gateway_edits.py, made by hand, are tried first. Files that do
+not change are compiled once. A mutant that does not compile, or compiles to the program that it was
+made of, does not count. Tests that fail over the sources as they are, are printed and left out.
 
-The table has a line for each mutant: its name, and the test that found it, or `survives`. The file tools/gateway_survivors.txt lists those that are known to
-survive, with the reason. The status is 1 if another one does. `-k` tries the mutants with TEXT in their names.
+The table has a line for each mutant: its name, and the test that found it, or `survives`. The file
+tools/gateway_survivors.txt lists those that are known to survive, with the reason. The status is 1
+if another one does. `-k` tries the mutants with TEXT in their names.
 """
 import argparse
 import concurrent.futures
@@ -26,14 +31,18 @@ import unittest
 
 ROOT = os.path.dirname(os.path.dirname(os.path.abspath(__file__)))
 SOURCES = f"{ROOT}/clients/gateway"
-LIBRARY = f"{ROOT}/crates/oa_gateway_c/out/liboa_gateway_c.a"  # the proved part, of which tools/wrong_bodies tries mutants
+# the proved part, of which tools/wrong_bodies tries mutants
+LIBRARY = f"{ROOT}/crates/oa_gateway_c/out/liboa_gateway_c.a"
 SURVIVORS = f"{ROOT}/tools/gateway_survivors.txt"
 BASIC = ["-std=gnu11", "-D_GNU_SOURCE", "-w", '-DVERSION="0"']
 SANITIZED = ["-O1", "-g", "-fsanitize=address,undefined", "-fno-sanitize-recover=all"]
 PLAIN = ["-O1"]
 TREE = ROOT  # the folder in which the tests run
-SECONDS = os.environ.get("OAUT_SECONDS") or "20"  # that a test waits for each thing: more on a busy machine
+# that a test waits for each thing: more on a busy machine
+SECONDS = os.environ.get("OAUT_SECONDS") or "20"
 LONGEST = 21 * int(SECONDS)  # seconds of all tests of a mutant
+# the package of the tests
+PACKAGE = "tests.gateway"
 # the tests, in the order in which they are run; each line is a process
 TESTS = (
     "test_gateway.Framing test_gateway.Sharing",
@@ -72,7 +81,11 @@ FIRST = {
 COMPARED = {"<": "<=", "<=": "<", ">": ">=", ">=": ">", "==": "!=", "!=": "=="}
 # a kind of edit: its name, what it replaces, and by what
 EDITS = (
-    ("one off", r"(?<![-<>=!&|+*/^%])\s(<|<=|>|>=)\s(?=[\w(*&-])", lambda it: f" {COMPARED[it[1]]} "),
+    (
+        "one off",
+        r"(?<![-<>=!&|+*/^%])\s(<|<=|>|>=)\s(?=[\w(*&-])",
+        lambda it: f" {COMPARED[it[1]]} ",
+    ),
     ("other equality", r"\s(==|!=)\s", lambda it: f" {COMPARED[it[1]]} "),
     ("other operator", r"\s(&&|\|\|)\s", lambda it: " || " if it[1] == "&&" else " && "),
     ("negated", r"\b(if) \((?!.*\bif \()(.*?)\)(?= [\w*{(]|;|$)", lambda it: f"if (!({it[2]}))"),
@@ -84,15 +97,25 @@ EDITS = (
     ("other truth", r"\b(true|false)\b", lambda it: "false" if it[1] == "true" else "true"),
     ("without not", r"(?<=[(\s])!(?=[\w(])", lambda it: ""),
     ("other client", r"(?<=\()c(?=[,)])", lambda it: "clients"),
-    ("left out", r"^(\s*)(?!return|static|break|continue|goto|else|case|char|int|size_t|bool|double|struct|uint\w+|ssize_t|Client|unsigned|const|long|for|while|if|do)"
-     r"([\w*(&][^{}]*[)\w\]];)\s*(?:/\*.*)?$", lambda it: f"{it[1]};"),
-    ("condition's statement left out", r"^(\s*(?:else )?if \(.*\)) ([^{}();=]+(?:\([^{}]*\)|[-+]?=[^;]+));$", lambda it: f"{it[1]};"),
+    (
+        "left out",
+        r"^(\s*)(?!return|static|break|continue|goto|else|case|char|int|size_t|bool|double|struct|"
+        r"uint\w+|ssize_t|Client|unsigned|const|long|for|while|if|do)"
+        r"([\w*(&][^{}]*[)\w\]];)\s*(?:/\*.*)?$",
+        lambda it: f"{it[1]};",
+    ),
+    (
+        "condition's statement left out",
+        r"^(\s*(?:else )?if \(.*\)) ([^{}();=]+(?:\([^{}]*\)|[-+]?=[^;]+));$",
+        lambda it: f"{it[1]};",
+    ),
     ("never", r"^(\s*(?:else )?if) \((.*)\)(?= [\w*{(]|$)", lambda it: f"{it[1]} (0 && ({it[2]}))"),
-)  # fmt: skip
+)
 
 
 def code_lines(text):
-    """The lines of a source that are code: (number, line). Comments, strings' insides and the usage text are none."""
+    """The lines of a source that are code: (number, line). Comments, strings' insides and the usage
+    text are none."""
     inside = False
     for number, line in enumerate(text.split("\n")):
         bare = line.strip()
@@ -109,7 +132,9 @@ def code_lines(text):
 def quoted(line, at):
     """Whether a place of a line lies in a string, a sign or a comment."""
     before = re.sub(r"\\.", "..", line[:at])
-    return before.count('"') % 2 == 1 or before.count("'") % 2 == 1 or "/*" in before or "//" in before
+    return (
+        before.count('"') % 2 == 1 or before.count("'") % 2 == 1 or "/*" in before or "//" in before
+    )
 
 
 def copy_tree(room):
@@ -117,7 +142,12 @@ def copy_tree(room):
     global TREE
     TREE = f"{room}/tree"
     for it in ("bench", "clients", "dist", "docs", "examples", "tests", "tools"):
-        shutil.copytree(f"{ROOT}/{it}", f"{TREE}/{it}", symlinks=True, ignore=shutil.ignore_patterns("__pycache__"))
+        shutil.copytree(
+            f"{ROOT}/{it}",
+            f"{TREE}/{it}",
+            symlinks=True,
+            ignore=shutil.ignore_patterns("__pycache__"),
+        )
 
 
 def all_mutants():
@@ -139,7 +169,17 @@ def all_mutants():
                     seen.add(changed)
                     name = os.path.basename(path)
                     # (a name stays as long as its line does, wherever the line is)
-                    found.append((f"{name[:-2]}-{hashlib.sha1(f'{name} {line} {new}'.encode()).hexdigest()[:6]} {kind}: {line.strip()[:70]}", name, changed))
+                    found.append(
+                        (
+                            (
+                                f"{name[:-2]}-"
+                                f"{hashlib.sha1(f'{name} {line} {new}'.encode()).hexdigest()[:6]} "
+                                f"{kind}: {line.strip()[:70]}"
+                            ),
+                            name,
+                            changed,
+                        )
+                    )
     return found
 
 
@@ -164,12 +204,22 @@ class Objects:
     """The objects of the unchanged files, and programs made of them and of one that is changed."""
 
     def __init__(self, room, plain):
-        self.room, self.sources, self.plain, self.flags = room, f"{room}/sources", plain, ("plain",) if plain else ("plain", "asan")
+        self.room, self.sources, self.plain, self.flags = (
+            room,
+            f"{room}/sources",
+            plain,
+            ("plain",) if plain else ("plain", "asan"),
+        )
         shutil.copytree(SOURCES, self.sources)
         self.names = sorted(os.path.basename(it) for it in glob.glob(f"{SOURCES}/*.c"))
         names = [*self.names, *([] if plain else ["tests/fuzz.c", "main.c as gateway_main"])]
         with concurrent.futures.ThreadPoolExecutor() as pool:
-            list(pool.map(self.compiled_as_it_is, [(name, flags) for name in names for flags in self.flags]))
+            list(
+                pool.map(
+                    self.compiled_as_it_is,
+                    [(name, flags) for name in names for flags in self.flags],
+                )
+            )
 
     def object(self, name, flags, folder=None):
         return f"{folder or self.room}/{flags}.{name.replace('/', '.').replace(' ', '.')}.o"
@@ -181,13 +231,33 @@ class Objects:
             raise SystemExit(f"{name} does not compile")
 
     def compiled(self, source, to, flags, more=()):
-        words = ["cc", *BASIC, *(SANITIZED if flags == "asan" else PLAIN), *more, "-I", self.sources, "-c", source, "-o", to]
+        words = [
+            "cc",
+            *BASIC,
+            *(SANITIZED if flags == "asan" else PLAIN),
+            *more,
+            "-I",
+            self.sources,
+            "-c",
+            source,
+            "-o",
+            to,
+        ]
         return subprocess.run(words, stderr=subprocess.DEVNULL).returncode == 0
 
     def linked(self, folder, changed, flags, to, fuzz=False):
         own = lambda it: self.object(it, flags, folder if it.split(" ")[0] == changed else None)
-        names = [it for it in self.names if not fuzz or it != "main.c"] + (["tests/fuzz.c", "main.c as gateway_main"] if fuzz else [])
-        words = ["cc", *(SANITIZED if flags == "asan" else PLAIN), *map(own, names), LIBRARY, "-o", to]
+        names = [it for it in self.names if not fuzz or it != "main.c"] + (
+            ["tests/fuzz.c", "main.c as gateway_main"] if fuzz else []
+        )
+        words = [
+            "cc",
+            *(SANITIZED if flags == "asan" else PLAIN),
+            *map(own, names),
+            LIBRARY,
+            "-o",
+            to,
+        ]
         subprocess.run(words, check=True)
 
     def made(self, folder, changed, text):
@@ -197,21 +267,30 @@ class Objects:
         for flags in self.flags:
             if not self.compiled(f"{folder}/{changed}", self.object(changed, flags, folder), flags):
                 return "does not compile"
-            if flags == "plain" and self.code(self.object(changed, flags, folder)) == self.code(self.object(changed, flags)):
+            if flags == "plain" and self.code(self.object(changed, flags, folder)) == self.code(
+                self.object(changed, flags)
+            ):
                 return "is the same program"
             self.linked(folder, changed, flags, f"{folder}/{flags}")
         if self.plain:
             os.link(f"{folder}/plain", f"{folder}/asan")
             return None
         if changed == "main.c":
-            self.compiled(f"{folder}/{changed}", self.object("main.c as gateway_main", "asan", folder), "asan", ["-Dmain=gateway_main"])
+            self.compiled(
+                f"{folder}/{changed}",
+                self.object("main.c as gateway_main", "asan", folder),
+                "asan",
+                ["-Dmain=gateway_main"],
+            )
         self.linked(folder, changed, "asan", f"{folder}/fuzz", fuzz=True)
         return None
 
     @staticmethod
     def code(object_file):
         """The contents of an object file, without its name."""
-        return subprocess.run(["objdump", "-drs", object_file], capture_output=True, text=True, check=True).stdout.split("\n", 3)[-1]
+        return subprocess.run(
+            ["objdump", "-drs", object_file], capture_output=True, text=True, check=True
+        ).stdout.split("\n", 3)[-1]
 
 
 def tried(objects, program, mutant, tests, left_out, before):
@@ -234,13 +313,16 @@ def tried(objects, program, mutant, tests, left_out, before):
 def passes_driver(driver):
     """Whether the driver of made-up clients and a made-up server finds nothing."""
     try:
-        return subprocess.run([driver, "100", "1"], capture_output=True, timeout=120).returncode == 0
+        return (
+            subprocess.run([driver, "100", "1"], capture_output=True, timeout=120).returncode == 0
+        )
     except subprocess.TimeoutExpired:
         return False
 
 
 def found_by(folder, program, tests, left_out):
-    """The first of these tests that fails over a mutant, twice: on a busy machine one may fail by itself."""
+    """The first of these tests that fails over a mutant, twice: on a busy machine one may fail by
+    itself."""
     left_out = list(left_out)
     while failed := run(folder, program, tests, left_out):
         test = failed[0].split(":")[0]
@@ -252,17 +334,33 @@ def found_by(folder, program, tests, left_out):
 
 
 def run(folder, program, tests, left_out, all_of_them=False):
-    """The tests that fail over the programs in a folder: the first one, or all of them. All that they leave is deleted."""
-    with tempfile.TemporaryDirectory(prefix="mutant", dir="/dev/shm" if os.access("/dev/shm", os.W_OK) else None) as room:
+    """The tests that fail over the programs in a folder: the first one, or all of them. All that
+    they leave is deleted."""
+    with tempfile.TemporaryDirectory(
+        prefix="mutant", dir="/dev/shm" if os.access("/dev/shm", os.W_OK) else None
+    ) as room:
         os.chmod(room, 0o755)  # other users try to connect
         environment = {
-            **os.environ, "OAUT_PROGRAM": program, "OAUT_SECONDS": SECONDS, "OAUT_NOISE": "2", "OAUT_FAST_FOLDER": room, "TMPDIR": room,
-            "OAUT_GATEWAY": f"{folder}/asan", "OAUT_GATEWAY_PLAIN": f"{folder}/plain",
-            "OAUT_LEFT_OUT": " ".join(left_out), "OAUT_ALL": "1" * all_of_them,
-        }  # fmt: skip
+            **os.environ,
+            "OAUT_PROGRAM": program,
+            "OAUT_SECONDS": SECONDS,
+            "OAUT_NOISE": "2",
+            "OAUT_FAST_FOLDER": room,
+            "TMPDIR": room,
+            "OAUT_GATEWAY": f"{folder}/asan",
+            "OAUT_GATEWAY_PLAIN": f"{folder}/plain",
+            "OAUT_LEFT_OUT": " ".join(left_out),
+            "OAUT_ALL": "1" * all_of_them,
+        }
         words = [sys.executable, f"{TREE}/tools/gateway_mutants.py", "--run-tests", *tests.split()]
         with open(f"{room}/out", "w+") as out:
-            process = subprocess.Popen(words, env=environment, stdout=out, stderr=subprocess.DEVNULL, start_new_session=True)
+            process = subprocess.Popen(
+                words,
+                env=environment,
+                stdout=out,
+                stderr=subprocess.DEVNULL,
+                start_new_session=True,
+            )
             try:
                 process.wait(LONGEST)
                 more = []
@@ -289,7 +387,7 @@ class First(unittest.TestResult):
     """Ends all at the first failure, and prints its test's name."""
 
     def failed(self, test):
-        name = getattr(test, "test_case", test).id()
+        name = named(getattr(test, "test_case", test))
         detail = getattr(test, "_message", None)
         print(f"FAILED {name}{f': {detail}' if isinstance(detail, str) else ''}", flush=True)
         if not os.environ.get("OAUT_ALL"):
@@ -307,10 +405,16 @@ class First(unittest.TestResult):
 
 
 def run_tests(names):
-    sys.path[:0] = sorted(glob.glob(f"{ROOT}/tests/*/"))
+    sys.path.insert(0, ROOT)
     left_out = os.environ["OAUT_LEFT_OUT"].split()
-    unittest.TestSuite(it for it in tests_of(unittest.TestLoader().loadTestsFromNames(names)) if it.id() not in left_out).run(First())
+    loaded = unittest.TestLoader().loadTestsFromNames([f"{PACKAGE}.{it}" for it in names])
+    unittest.TestSuite(it for it in tests_of(loaded) if named(it) not in left_out).run(First())
     os._exit(0)
+
+
+def named(test):
+    """The name of a test in the tests' package."""
+    return test.id().removeprefix(f"{PACKAGE}.")
 
 
 def tests_of(suite):
@@ -327,9 +431,17 @@ def failing_as_it_is(objects, room, program, tests):
     for folder in folders:
         os.mkdir(folder)
         for flags in ("plain", "asan"):
-            objects.linked(folder, None, objects.flags[-1] if flags == "asan" else flags, f"{folder}/{flags}")
+            objects.linked(
+                folder, None, objects.flags[-1] if flags == "asan" else flags, f"{folder}/{flags}"
+            )
     with concurrent.futures.ThreadPoolExecutor() as pool:
-        failed = [it for found in pool.map(lambda it: run(it[0], program, it[1], [], True), zip(folders, tests)) for it in found]
+        failed = [
+            it
+            for found in pool.map(
+                lambda it: run(it[0], program, it[1], [], True), zip(folders, tests)
+            )
+            for it in found
+        ]
     print(f"left out, since they fail over the sources as they are: {failed or 'none'}", flush=True)
     return sorted({it.split(":")[0] for it in failed})
 
@@ -357,23 +469,67 @@ def chosen(given):
     drawn = all_mutants()
     random.Random(given.seed).shuffle(drawn)
     drawn = drawn[: given.count] if not given.names else drawn
-    return [it for it in by_hand + drawn if not given.names or any(text in it[0] for text in given.names)]
+    return [
+        it
+        for it in by_hand + drawn
+        if not given.names or any(text in it[0] for text in given.names)
+    ]
 
 
 def main():
-    parser = argparse.ArgumentParser(description=__doc__, formatter_class=argparse.RawDescriptionHelpFormatter)
-    parser.add_argument("--program", metavar="PATH", default=f"{ROOT}/crates/oaut/out/oaut", help="the program")
-    parser.add_argument("--count", metavar="N", type=int, default=200, help="how many are drawn (200)")
+    parser = argparse.ArgumentParser(
+        description=__doc__, formatter_class=argparse.RawDescriptionHelpFormatter
+    )
+    parser.add_argument(
+        "--program", metavar="PATH", default=f"{ROOT}/crates/oaut/out/oaut", help="the program"
+    )
+    parser.add_argument(
+        "--count", metavar="N", type=int, default=200, help="how many are drawn (200)"
+    )
     parser.add_argument("--seed", metavar="S", type=int, default=1, help="which ones are drawn (1)")
-    parser.add_argument("--jobs", metavar="N", type=int, default=2 * (os.cpu_count() or 1), help="how many are tried at once")
-    parser.add_argument("--table", metavar="FILE", help="file for the table, besides standard output")
-    parser.add_argument("--before", metavar="FILE", help="the table of an earlier run: what found a mutant then is run first")
-    parser.add_argument("--tests", metavar="NAME", action="append", help="only these tests, such as test_gateway_behaviour")
-    parser.add_argument("--left-out", metavar="NAME", action="append", help="leave this test out, in place of those that fail over the sources as they are")
-    parser.add_argument("-k", metavar="TEXT", action="append", dest="names", help="only mutants with TEXT in their names")
-    parser.add_argument("--plain", action="store_true", help="without sanitizers and the driver of clients/gateway/tests: a quarter of the time")
+    parser.add_argument(
+        "--jobs",
+        metavar="N",
+        type=int,
+        default=2 * (os.cpu_count() or 1),
+        help="how many are tried at once",
+    )
+    parser.add_argument(
+        "--table", metavar="FILE", help="file for the table, besides standard output"
+    )
+    parser.add_argument(
+        "--before",
+        metavar="FILE",
+        help="the table of an earlier run: what found a mutant then is run first",
+    )
+    parser.add_argument(
+        "--tests",
+        metavar="NAME",
+        action="append",
+        help="only these tests, such as test_gateway_behaviour",
+    )
+    parser.add_argument(
+        "--left-out",
+        metavar="NAME",
+        action="append",
+        help="leave this test out, in place of those that fail over the sources as they are",
+    )
+    parser.add_argument(
+        "-k",
+        metavar="TEXT",
+        action="append",
+        dest="names",
+        help="only mutants with TEXT in their names",
+    )
+    parser.add_argument(
+        "--plain",
+        action="store_true",
+        help="without sanitizers and the driver of clients/gateway/tests: a quarter of the time",
+    )
     parser.add_argument("--drawn", action="store_true", help="without those that were made by hand")
-    parser.add_argument("--only-before", action="store_true", help="run nothing but what found a mutant before")
+    parser.add_argument(
+        "--only-before", action="store_true", help="run nothing but what found a mutant before"
+    )
     parser.add_argument("--list", action="store_true", help="print the names of the mutants")
     parser.add_argument("--run-tests", nargs="+", help=argparse.SUPPRESS)
     given = parser.parse_args()
@@ -384,14 +540,25 @@ def main():
     if given.list:
         print("\n".join(it[0] for it in mutants))
         return 0
-    known, survive, found, none, table = known_survivors(), [], 0, 0, open(given.table or os.devnull, "w")
+    known, survive, found, none, table = (
+        known_survivors(),
+        [],
+        0,
+        0,
+        open(given.table or os.devnull, "w"),
+    )
     with tempfile.TemporaryDirectory(prefix="mutants") as room, table:
         copy_tree(room)
         objects = Objects(room, given.plain)
-        tests, before = [] if given.only_before else given.tests or TESTS, found_before(given.before)
+        tests, before = [] if given.only_before else given.tests or TESTS, found_before(
+            given.before
+        )
         left_out = given.left_out or failing_as_it_is(objects, room, given.program, tests)
         with concurrent.futures.ThreadPoolExecutor(given.jobs) as pool:
-            futures = [pool.submit(tried, objects, given.program, it, tests, left_out, before) for it in mutants]
+            futures = [
+                pool.submit(tried, objects, given.program, it, tests, left_out, before)
+                for it in mutants
+            ]
             for it in concurrent.futures.as_completed(futures):
                 name, test, seconds = it.result()
                 line = f"{name} | {test or 'survives'} | {seconds:.0f} s"
@@ -404,7 +571,10 @@ def main():
                 else:
                     survive.append(name)
     new = [it for it in survive if it.split()[0] not in known]
-    print(f"{found} found, {len(survive)} survive, {len(new)} of these without a known reason; {none} are no mutants")
+    print(
+        f"{found} found, {len(survive)} survive, {len(new)} of these without a known reason; "
+        f"{none} are no mutants"
+    )
     return 1 if new else 0
 
 

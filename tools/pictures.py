@@ -1,5 +1,6 @@
 #!/usr/bin/env python3
-"""Makes the pictures of README.md and docs/guide/view.md anew, by the page of `python3 -m oaut view`: the store of examples/start.py, and a stock of teas.
+"""Makes the pictures of README.md and docs/guide/view.md anew, by the page of `python3 -m oaut
+view`: the store of examples/start.py, and a stock of teas.
 
     python3 tools/pictures.py [--program PATH]
 
@@ -18,7 +19,20 @@ import time
 
 ROOT = os.path.dirname(os.path.dirname(os.path.abspath(__file__)))
 LIBRARY = f"{ROOT}/examples/full.idl"
-TEAS = ("Assam", "Ceylon", "Darjeeling", "Earl Grey", "Gunpowder", "Jasmine", "Keemun", "Lapsang Souchong", "Matcha", "Oolong", "Rooibos", "Sencha")
+TEAS = (
+    "Assam",
+    "Ceylon",
+    "Darjeeling",
+    "Earl Grey",
+    "Gunpowder",
+    "Jasmine",
+    "Keemun",
+    "Lapsang Souchong",
+    "Matcha",
+    "Oolong",
+    "Rooibos",
+    "Sencha",
+)
 
 
 def main():
@@ -26,8 +40,8 @@ def main():
     parser.add_argument("--program", default=f"{ROOT}/crates/oaut/out/oaut")
     program = os.path.abspath(parser.parse_args().program)
     os.environ["OAUT_PROGRAM"] = program
-    sys.path[:0] = [*(f"{ROOT}/{it}" for it in ("tests/support", "tests/client", "tests/gateway", "clients/python"))]
-    import viewing
+    sys.path.insert(0, ROOT)
+    from tests.client import viewing
     import oaut
 
     with tempfile.TemporaryDirectory() as room:
@@ -56,7 +70,9 @@ def main():
         os.mkdir(f"{room}/bin")
         os.symlink(program, f"{room}/bin/oaut")
         path = {"PATH": f"{room}/bin:{os.environ['PATH']}", "PYTHONPATH": f"{ROOT}/clients/python"}
-        subprocess.run([sys.executable, "start.py"], cwd=room, env={**os.environ, **path}, check=True)
+        subprocess.run(
+            [sys.executable, "start.py"], cwd=room, env={**os.environ, **path}, check=True
+        )
         with shown(viewing, f"{room}/items.store", 430) as do:
             do("click", ".lines .row")
             time.sleep(2)
@@ -67,7 +83,12 @@ def main():
 def shown(viewing, store, height, *words):
     """A browser that shows a store, with the function that makes it act."""
     with viewing.Page(store, *words) as page:
-        browser = subprocess.Popen([viewing.BROWSER, f"{ROOT}/tests/client/browser.py"], stdin=subprocess.PIPE, stdout=subprocess.PIPE, text=True)
+        browser = subprocess.Popen(
+            [viewing.BROWSER, f"{ROOT}/tests/client/browser.py"],
+            stdin=subprocess.PIPE,
+            stdout=subprocess.PIPE,
+            text=True,
+        )
 
         def do(*words):
             print(json.dumps(words), file=browser.stdin, flush=True)

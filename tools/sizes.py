@@ -1,10 +1,11 @@
 #!/usr/bin/env python3
-"""Prints how large the crates are, for the table of docs/benchmarks.md: functions as the prover counts them, lines of src/, specs/ and proofs/.
+"""Prints how large the crates are, for the table of docs/benchmarks.md: functions as the prover
+counts them, lines of src/, specs/ and proofs/.
 
     python3 tools/sizes.py LOG       LOG is what rt ci printed, from nothing
 
-A function is what was proved: of a file with a derive, its methods too. A line is a line of a file, whatever is on it. The time to check a crate is not in the
-log, and stays as the table has it.
+A function is what was proved: of a file with a derive, its methods too. A line is a line of a file,
+whatever is on it. The time to check a crate is not in the log, and stays as the table has it.
 """
 import os
 import re
@@ -59,7 +60,12 @@ def main():
             lines_of(os.path.join(folder, "specs"), ".antt"),
             lines_of(os.path.join(folder, "proofs"), ".antt"),
         )
-        cells = [crate, str(counts.get(crate, "")), "/".join(f"{size:,}" for size in sizes), minutes.get(crate, "")]
+        cells = [
+            crate,
+            str(counts.get(crate, "")),
+            "/".join(f"{size:,}" for size in sizes),
+            minutes.get(crate, ""),
+        ]
         print("| " + " | ".join(cells) + " |")
 
 

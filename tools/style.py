@@ -1,11 +1,12 @@
 #!/usr/bin/env python3
-"""Finds sentences that are hard to read: in the pages, in manual pages, in docstrings, messages and `--help` texts of Python and C, and in the
-messages of the crates.
+"""Finds sentences that are hard to read: in the pages, in manual pages, in docstrings, messages and
+`--help` texts of Python and C, and in the messages of the crates.
 
-    python3 tools/style.py [FILE ..]    prints FILE:LINE: RULE: SENTENCE for each finding, in some files or in all
+    python3 tools/style.py [FILE ..]    prints FILE:LINE: RULE: SENTENCE for each finding, in some
+        files or in all
 
-It finds what a program can check. Code, commands, link targets and comments of Python are not checked. Without files it reads the manual pages, too, as
-dist/manual.py makes them.
+It finds what a program can check. Code, commands, link targets and comments of Python are not
+checked. Without files it reads the manual pages, too, as dist/manual.py makes them.
 """
 import ast
 import glob
@@ -32,13 +33,21 @@ WORDS = {
 }
 # of comments: their first words, and words that they have in no other sense
 COMMENTS = {
-    **{rule: pattern for rule, pattern in WORDS.items() if "where" not in rule and "asked for" not in rule},
+    **{
+        rule: pattern
+        for rule, pattern in WORDS.items()
+        if "where" not in rule and "asked for" not in rule
+    },
     "`stands`": re.compile(r"\bstands?\b", re.IGNORECASE),
     "`is told`, `tells`": re.compile(r"\btells?\b|\btold\b", re.IGNORECASE),
-    "begins with `Who` or `The same`": re.compile(r"^(?:Who(?:ever)?|The same(?= (?:of|by|where|with)\b))\b"),
+    "begins with `Who` or `The same`": re.compile(
+        r"^(?:Who(?:ever)?|The same(?= (?:of|by|where|with)\b))\b"
+    ),
 }
 # a condition of SQL
-SQL = re.compile(r"\bWHERE \w+ =|\b(?:update|select|delete)\b.*\bwhere\b|^\s*where \w+ =", re.IGNORECASE)
+SQL = re.compile(
+    r"\bWHERE \w+ =|\b(?:update|select|delete)\b.*\bwhere\b|^\s*where \w+ =", re.IGNORECASE
+)
 BEGINS = re.compile(r"^[\W_]*(Who|What|Whoever|Whatever)\b")
 END = re.compile(r"(?<=[.!?])[\"')*_]*\s+(?=[\"'(*_`]*[A-Z0-9`])")
 ABBREVIATIONS = re.compile(r"(?:^|[\s(])(?:e\.g|i\.e|etc|vs|cf|No|Fig|sec|p)\.$")
@@ -54,14 +63,18 @@ def pages():
 
 
 def sources():
-    """The files whose docstrings and messages are checked, in Python, C and Rattle, as paths from the root."""
-    found = [os.path.relpath(it, ROOT) for it in glob.glob(f"{ROOT}/crates/*/src/**/*.rt", recursive=True)]
+    """The files whose docstrings and messages are checked, in Python, C and Rattle, as paths from
+    the root."""
+    found = [
+        os.path.relpath(it, ROOT)
+        for it in glob.glob(f"{ROOT}/crates/*/src/**/*.rt", recursive=True)
+    ]
     for folder in ("bench", "clients", "dist", "examples", "tools"):
         for path in glob.glob(f"{ROOT}/{folder}/**/*", recursive=True):
             # (the texts of this file are the patterns)
             if (
                 os.path.isfile(path)
-                and "/tests/" not in path
+                and "/tests/" not in os.path.relpath(path, ROOT)
                 and os.path.basename(path) != "style.py"
                 and not os.path.basename(path).startswith("test_")
                 and (path.endswith((".c", ".h")) or is_python(path))
@@ -97,14 +110,22 @@ def sentences(text):
 
 
 def units(page):
-    """The paragraphs, items of lists, headings and cells of a page: a kind, the number of the first line, the text."""
+    """The paragraphs, items of lists, headings and cells of a page: a kind, the number of the first
+    line, the text."""
     kind, begun, told, fenced, before = None, 0, [], False, ""
     for number, line in enumerate([*page.split("\n"), ""], 1):
         if line.lstrip().startswith("```"):
             fenced = not fenced
             line, is_code = "", True
         else:
-            is_code = fenced or not before.strip() and line.startswith("    ") and kind != "item" or kind == "code" and line.startswith("    ")
+            is_code = (
+                fenced
+                or not before.strip()
+                and line.startswith("    ")
+                and kind != "item"
+                or kind == "code"
+                and line.startswith("    ")
+            )
         is_item, is_table, is_heading = ITEM.match(line), line.startswith("|"), line.startswith("#")
         if told and (is_code or not line.strip() or is_item or is_table or is_heading):
             yield kind, begun, "\n".join(told)
@@ -114,13 +135,19 @@ def units(page):
         elif is_table:
             kind = "table"
             if not re.fullmatch(r"[\s|:-]+", line):
-                yield from (("cell", number, cell.strip()) for cell in re.split(r"(?<!\\)\|", line.strip().strip("|")))
+                yield from (
+                    ("cell", number, cell.strip())
+                    for cell in re.split(r"(?<!\\)\|", line.strip().strip("|"))
+                )
         elif is_heading:
             kind = "heading"
             yield kind, number, line.lstrip("# ")
         elif line.strip():
             if not told:
-                begun, kind = number, "item" if is_item or line.startswith("  ") and kind == "item" else "text"
+                begun, kind = (
+                    number,
+                    "item" if is_item or line.startswith("  ") and kind == "item" else "text",
+                )
             told.append(ITEM.sub("", line))
         elif kind != "item":
             kind = None
@@ -128,7 +155,8 @@ def units(page):
 
 
 def findings(page, longest=PAGES_LONGEST):
-    """Yields the violations in a page, or in a docstring with more words in a sentence: a line, a rule, a sentence."""
+    """Yields the violations in a page, or in a docstring with more words in a sentence: a line, a
+    rule, a sentence."""
     for kind, number, text in units(page):
         if kind == "cell" and re.match(r"\.\.", text):
             yield number, "a cell begins with `..`", text
@@ -136,7 +164,11 @@ def findings(page, longest=PAGES_LONGEST):
             for rule, pattern in WORDS.items():
                 if pattern.search(OF_A_PLACE.sub("", it)) and not it.endswith("?"):
                     yield number, rule, it
-            if kind in ("text", "item") and BEGINS.match(it) and not it.rstrip("\"')*_").endswith("?"):
+            if (
+                kind in ("text", "item")
+                and BEGINS.match(it)
+                and not it.rstrip("\"')*_").endswith("?")
+            ):
                 yield number, "begins with `Who` or `What`", it
             count = sum(any(map(str.isalnum, word)) for word in it.split())
             if count > longest:
@@ -144,17 +176,22 @@ def findings(page, longest=PAGES_LONGEST):
 
 
 def python_texts(source):
-    """The docstrings of a module, and its other texts with CODE for each value: the line, whether it is a docstring, the text."""
+    """The docstrings of a module, and its other texts with CODE for each value: the line, whether
+    it is a docstring, the text."""
     documents, parts = set(), set()
     tree = ast.parse(source)
     for it in ast.walk(tree):
-        if isinstance(it, (ast.Module, ast.ClassDef, ast.FunctionDef, ast.AsyncFunctionDef)) and ast.get_docstring(it):
+        if isinstance(
+            it, (ast.Module, ast.ClassDef, ast.FunctionDef, ast.AsyncFunctionDef)
+        ) and ast.get_docstring(it):
             documents.add(it.body[0].value)
         elif isinstance(it, ast.JoinedStr):
             parts.update(it.values)
     for it in ast.walk(tree):
         if isinstance(it, ast.JoinedStr):
-            yield it.lineno, False, "".join(part.value if isinstance(part, ast.Constant) else "CODE" for part in it.values)
+            yield it.lineno, False, "".join(
+                part.value if isinstance(part, ast.Constant) else "CODE" for part in it.values
+            )
         elif isinstance(it, ast.Constant) and isinstance(it.value, str) and it not in parts:
             yield it.lineno, it in documents, it.value
 
@@ -162,19 +199,35 @@ def python_texts(source):
 def c_texts(source):
     """The texts of a C file, with those side by side as one: the line, False, the text."""
     source = re.sub(
-        r"/\*.*?\*/|//[^\n]*", lambda it: "\n" * it[0].count("\n") if it[0].startswith("/*") and '"' not in it[0] else it[0], source, flags=re.DOTALL
+        r"/\*.*?\*/|//[^\n]*",
+        lambda it: "\n" * it[0].count("\n")
+        if it[0].startswith("/*") and '"' not in it[0]
+        else it[0],
+        source,
+        flags=re.DOTALL,
     )
     for found in re.finditer(r'(?:L?"(?:[^"\\\n]|\\.)*"\s*)+', source):
         pieces = re.findall(r'"((?:[^"\\\n]|\\.)*)"', found[0])
-        yield source.count("\n", 0, found.start()) + 1, False, "".join(pieces).replace("\\n", "\n").replace('\\"', '"')
+        yield source.count("\n", 0, found.start()) + 1, False, "".join(pieces).replace(
+            "\\n", "\n"
+        ).replace('\\"', '"')
 
 
 def text_findings(text):
-    """Yields the violations in a message: a rule and a sentence. Each line of a text is read by itself."""
+    """Yields the violations in a message: a rule and a sentence. Each line of a text is read by
+    itself."""
     for line in text.split("\n"):
         # (a word alone is a name)
-        for it in sentences(line if " " in line.strip() and not line.startswith("#") and not SQL.search(line) else ""):
-            yield from ((rule, it) for rule, pattern in WORDS.items() if pattern.search(OF_A_PLACE.sub("", it)) and not it.endswith("?"))
+        for it in sentences(
+            line
+            if " " in line.strip() and not line.startswith("#") and not SQL.search(line)
+            else ""
+        ):
+            yield from (
+                (rule, it)
+                for rule, pattern in WORDS.items()
+                if pattern.search(OF_A_PLACE.sub("", it)) and not it.endswith("?")
+            )
             if BEGINS.match(it) and not it.rstrip("\"')*_").endswith("?"):
                 yield "begins with `Who` or `What`", it
             words = [word for word in it.split() if any(map(str.isalnum, word))]
@@ -184,12 +237,15 @@ def text_findings(text):
 
 
 def comments(path, source):
-    """The comments of a file of a crate or of C, those in lines of their own as one: the line, the text."""
+    """The comments of a file of a crate or of C, those in lines of their own as one: the line, the
+    text."""
     if path.endswith((".c", ".h")):
         for found in re.finditer(r"/\*(.*?)\*/", source, flags=re.DOTALL):
             yield source.count("\n", 0, found.start()) + 1, re.sub(r"\n[ \t]*\*", "\n", found[1])
         return
-    begins = re.compile(r"\s*(//[/!]?|--)(?: (.*)|$)" if path.endswith(".antt") else r"\s*(//[/!]?)(?: (.*)|$)")
+    begins = re.compile(
+        r"\s*(//[/!]?|--)(?: (.*)|$)" if path.endswith(".antt") else r"\s*(//[/!]?)(?: (.*)|$)"
+    )
     begun, told, mark = 0, [], None
     for number, line in enumerate([*source.split("\n"), ""], 1):
         found = begins.match(line)
@@ -211,33 +267,55 @@ def findings_in_comments(path, source):
     """The same of a text, which the file's name says how to read."""
     for number, text in comments(path, source):
         for it in sentences(text):
-            yield from ((number, rule, it) for rule, pattern in COMMENTS.items() if pattern.search(it))
+            yield from (
+                (number, rule, it) for rule, pattern in COMMENTS.items() if pattern.search(it)
+            )
 
 
 def commented():
-    """The files whose comments are checked, as paths from the root: code and definitions of the crates, and C."""
-    found = [it for end in ("src/**/*.rt", "specs/**/*.antt") for it in glob.glob(f"{ROOT}/crates/*/{end}", recursive=True)]
-    return sorted([os.path.relpath(it, ROOT) for it in found] + [it for it in sources() if it.endswith((".c", ".h"))])
+    """The files whose comments are checked, as paths from the root: code and definitions of the
+    crates, and C."""
+    found = [
+        it
+        for end in ("src/**/*.rt", "specs/**/*.antt")
+        for it in glob.glob(f"{ROOT}/crates/*/{end}", recursive=True)
+    ]
+    return sorted(
+        [os.path.relpath(it, ROOT) for it in found]
+        + [it for it in sources() if it.endswith((".c", ".h"))]
+    )
 
 
 def manual_findings(page):
-    """Yields the violations in a manual page in roff, except in its headings, commands and examples: a line, a rule, a sentence."""
+    """Yields the violations in a manual page in roff, except in its headings, commands and
+    examples: a line, a rule, a sentence."""
     is_example = False
     for number, line in enumerate(page.split("\n"), 1):
         if line in (".nf", ".fi"):
             is_example = line == ".nf"
         elif not is_example and not line.startswith("."):
-            text = re.sub(r"\\\[u([0-9A-F]{4,})\]", lambda it: chr(int(it[1], 16)), line).replace("\\-", "-").replace("\\&", "").replace("\\e", "\\")
+            text = (
+                re.sub(r"\\\[u([0-9A-F]{4,})\]", lambda it: chr(int(it[1], 16)), line)
+                .replace("\\-", "-")
+                .replace("\\&", "")
+                .replace("\\e", "\\")
+            )
             # bold is code, which counts as one word, or a sentence
-            words = [it for it in text_findings(re.sub(r"\\f[BR]", "", text)) if not it[0][0].isdigit()]
-            counts = [it for it in text_findings(re.sub(r"\\fB.*?\\fR", "CODE", text)) if it[0][0].isdigit()]
+            words = [
+                it for it in text_findings(re.sub(r"\\f[BR]", "", text)) if not it[0][0].isdigit()
+            ]
+            counts = [
+                it
+                for it in text_findings(re.sub(r"\\fB.*?\\fR", "CODE", text))
+                if it[0][0].isdigit()
+            ]
             yield from ((number, *it) for it in (*words, *counts))
 
 
 def manuals():
     """The manual pages, by their paths below share/man."""
-    sys.path.insert(0, f"{ROOT}/dist")
-    import manual
+    sys.path.insert(0, ROOT)
+    from dist import manual
 
     return manual.pages("0")
 
@@ -248,10 +326,15 @@ def found_in(path):
     if path.endswith(".md"):
         return list(findings(source))
     found = []
-    for number, is_document, text in c_texts(source) if path.endswith((".c", ".h", ".rt")) else python_texts(source):
+    for number, is_document, text in (
+        c_texts(source) if path.endswith((".c", ".h", ".rt")) else python_texts(source)
+    ):
         if is_document:
             head, end, rest = text.partition("\n")
-            found += ((number + line - 1, rule, it) for line, rule, it in findings(head + end + textwrap.dedent(rest), LONGEST))
+            found += (
+                (number + line - 1, rule, it)
+                for line, rule, it in findings(head + end + textwrap.dedent(rest), LONGEST)
+            )
         else:
             found += ((number, rule, it) for rule, it in text_findings(text))
     return found

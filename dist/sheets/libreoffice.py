@@ -40,9 +40,19 @@ def _with_table(use, failure):
     try:
         import oaut
     except ImportError:
-        _say(f"{failure}: LibreOffice's Python has no module oaut; install the client (docs/guide/client.md)")
+        _say(
+            f"{failure}: LibreOffice's Python has no module oaut; install the client "
+            "(docs/guide/client.md)"
+        )
         return
-    address = _document().getSheets().getByName("Start").getCellRangeByName("B2").getCellByPosition(0, 0).getString()
+    address = (
+        _document()
+        .getSheets()
+        .getByName("Start")
+        .getCellRangeByName("B2")
+        .getCellByPosition(0, 0)
+        .getString()
+    )
     try:
         with oaut.connect(address) as session:
             found = session.objects("Table")
@@ -54,7 +64,10 @@ def _with_table(use, failure):
 def put_range(*_):
     def use(oaut, table):
         cells = _range("A1:C5").getDataArray()
-        table.Cells = [[_value(it, f"{name}{at}") for name, it in zip("ABC", row)] for at, row in enumerate(cells, 1)]
+        table.Cells = [
+            [_value(it, f"{name}{at}") for name, it in zip("ABC", row)]
+            for at, row in enumerate(cells, 1)
+        ]
         _say("The range is in the store.")
 
     _with_table(use, "The range was not put")
@@ -67,8 +80,18 @@ def get_range(*_):
             _say("The range was not read: put it first")
             return
         (rows, _), (columns, _) = cells.bounds
-        target = _range("E1").getCellByPosition(0, 0).getSpreadsheet().getCellRangeByPosition(4, 0, 3 + columns, rows - 1)
-        target.setDataArray(tuple(tuple(_cell(it) for it in cells.cells[row * columns : (row + 1) * columns]) for row in range(rows)))
+        target = (
+            _range("E1")
+            .getCellByPosition(0, 0)
+            .getSpreadsheet()
+            .getCellRangeByPosition(4, 0, 3 + columns, rows - 1)
+        )
+        target.setDataArray(
+            tuple(
+                tuple(_cell(it) for it in cells.cells[row * columns : (row + 1) * columns])
+                for row in range(rows)
+            )
+        )
         _say(f"{rows} rows and {columns} columns were read.")
 
     _with_table(use, "The range was not read")

@@ -14,7 +14,11 @@ NAMES = "urn:oasis:names:tc:opendocument:xmlns:"
 def content(values):
     """The document's sheet, with the settings' values."""
     cell = '<table:table-cell office:value-type="string"><text:p>{}</text:p></table:table-cell>'
-    rows = "".join(f"<table:table-row>{cell.format(name)}{cell.format(escape(values.get(name, '')))}" "</table:table-row>" for name in SETTINGS)
+    rows = "".join(
+        f"<table:table-row>{cell.format(name)}{cell.format(escape(values.get(name, '')))}"
+        "</table:table-row>"
+        for name in SETTINGS
+    )
     spaces = " ".join(f'xmlns:{it}="{NAMES}{it}:1.0"' for it in ("office", "table", "text"))
     return (
         f'<office:document-content {spaces} office:version="1.3"><office:body>'

@@ -1,8 +1,8 @@
 """A Calc document's macro: a table of a store's objects, whose cells go back into the store.
 
-`fill` writes a row for each object of a coclass, and a column for each of its properties that is one
-value without parameters. After that, a cell that you change is put into its object at once. If the
-server refuses it, the reason is beside "status", and the cell has its former value again. Each
+`fill` writes a row for each object of a coclass, and a column for each of its properties that is
+one value without parameters. After that, a cell that you change is put into its object at once. If
+the server refuses it, the reason is beside "status", and the cell has its former value again. Each
 call is a session of its own, so others may use the store in between. README.md has the steps.
 """
 import decimal

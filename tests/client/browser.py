@@ -1,7 +1,9 @@
 #!/usr/bin/env python3
-"""A browser for the cases of the page: commands as lines of JSON on standard input, an answer to each on standard output.
+"""A browser for the cases of the page: commands as lines of JSON on standard input, an answer to
+each on standard output.
 
-It stands in a process of its own, since selenium may be another Python's than that of the cases. A command is a list of a name and its arguments.
+It stands in a process of its own, since selenium may be another Python's than that of the cases. A
+command is a list of a name and its arguments.
 """
 import json
 import shutil
@@ -13,7 +15,13 @@ from selenium.webdriver.common.action_chains import ActionChains
 from selenium.webdriver.common.by import By
 from selenium.webdriver.common.keys import Keys
 
-WORDS = ("--headless=new", "--no-sandbox", "--disable-gpu", "--disable-dev-shm-usage", "--window-size=1280,800")
+WORDS = (
+    "--headless=new",
+    "--no-sandbox",
+    "--disable-gpu",
+    "--disable-dev-shm-usage",
+    "--window-size=1280,800",
+)
 
 
 def opened():
@@ -25,7 +33,10 @@ def opened():
     for last in (False, False, True):  # (a busy machine's browser may not be there in time)
         try:
             driver = webdriver.Chrome(
-                service=webdriver.ChromeService(shutil.which("chromedriver")) if hasattr(webdriver, "ChromeService") else service(), options=options
+                service=webdriver.ChromeService(shutil.which("chromedriver"))
+                if hasattr(webdriver, "ChromeService")
+                else service(),
+                options=options,
             )
             break
         except WebDriverException:
@@ -60,8 +71,14 @@ def done(driver, name, *words):
         chain.perform()
     elif name == "emulate":
         width, height, theme = words
-        driver.execute_cdp_cmd("Emulation.setDeviceMetricsOverride", {"width": width, "height": height, "deviceScaleFactor": 1, "mobile": False})
-        driver.execute_cdp_cmd("Emulation.setEmulatedMedia", {"features": [{"name": "prefers-color-scheme", "value": theme}]})
+        driver.execute_cdp_cmd(
+            "Emulation.setDeviceMetricsOverride",
+            {"width": width, "height": height, "deviceScaleFactor": 1, "mobile": False},
+        )
+        driver.execute_cdp_cmd(
+            "Emulation.setEmulatedMedia",
+            {"features": [{"name": "prefers-color-scheme", "value": theme}]},
+        )
     elif name == "picture":
         driver.save_screenshot(words[0])
     elif name == "log":

@@ -1,5 +1,7 @@
-"""Sessions over forks: `python3 forked.py WAY PROGRAM LIBRARY ROUNDS` has children of this process use what it began, and prints what they and it saw.
-WAY is os.fork, or a start method of multiprocessing, or `preload`: workers of a server that has begun its session before it forks them."""
+"""Sessions over forks: `python3 forked.py WAY PROGRAM LIBRARY ROUNDS` has children of this process
+use what it began, and prints what they and it saw. WAY is os.fork, or a start method of
+multiprocessing, or `preload`: workers of a server that has begun its session before it forks
+them."""
 import json
 import multiprocessing
 import os
@@ -102,7 +104,8 @@ def rounds_of_processes(way, program, library, rounds):
 
 
 def rounds_of_workers(program, library, rounds):
-    """As gunicorn's preload: what was begun before the workers were forked is refused there, what a worker begins is its own."""
+    """As gunicorn's preload: what was begun before the workers were forked is refused there, what a
+    worker begins is its own."""
     server = oaut.play(library, program=program)
     item = server.create("Item")
     item.Count = 1

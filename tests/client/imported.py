@@ -1,10 +1,12 @@
 #!/usr/bin/env python3
-"""Real input for the importers, which nobody here wrote: the MIDL texts of Wine (Debian: libwine-dev) and the type libraries inside of Wine's files.
+"""Real input for the importers, which nobody here wrote: the MIDL texts of Wine (Debian:
+libwine-dev) and the type libraries inside of Wine's files.
 
-    python3 tests/client/imported.py [--program PATH] [NAME ..]
+    python3 -m tests.client.imported [--program PATH] [NAME ..]
 
-imports each, or those whose names are given, with the program checks what comes of it, and in a session of it creates each coclass, puts each property
-that can be put, and gets each that can be got. Prints a table: a line for each, and one in which they are added up.
+imports each, or those whose names are given, with the program checks what comes of it, and in a
+session of it creates each coclass, puts each property that can be put, and gets each that can be
+got. Prints a table: a line for each, and one in which they are added up.
 """
 import argparse
 import collections
@@ -23,7 +25,13 @@ REASONS = {
     "double, date": ("double", "float", "date"),
     "out": ("out",),
     "by reference": ("a put by reference",),
-    "record, C": ("record", "array of C", "pointer", "text that is no BSTR", "type that no value has"),
+    "record, C": (
+        "record",
+        "array of C",
+        "pointer",
+        "text that is no BSTR",
+        "type that no value has",
+    ),
     "array": ("array", "array of"),
     "default": ("default",),
     "disagree": ("get and put disagree",),
@@ -41,7 +49,8 @@ def has_typelib(path):
 
 
 def reason_of(line):
-    """The column of a line about a member; "rest" where none is its own. None where it is about an item."""
+    """The column of a line about a member; "rest" where none is its own. None where it is about an
+    item."""
     told = re.match(r"\S+\.[^,]*, DISPID [^,]*, (\w+): (.*)", line)
     if told is None:
         return None
@@ -55,7 +64,10 @@ def reason_of(line):
 def counted(report):
     """What a report's last line counts, and its lines about members by their columns."""
     lines = report.splitlines()
-    counts = re.fullmatch(r"(\d+) interfaces, (\d+) coclasses, (\d+) members kept; \d+ lines of what is left out", lines[-1] if lines else "")
+    counts = re.fullmatch(
+        r"(\d+) interfaces, (\d+) coclasses, (\d+) members kept; \d+ lines of what is left out",
+        lines[-1] if lines else "",
+    )
     reasons = collections.Counter(filter(None, map(reason_of, lines)))
     return (*map(int, counts.groups()), reasons) if counts else None
 
@@ -63,7 +75,14 @@ def counted(report):
 def values_of(oaut, word):
     """Values of a declared type that a property has to give back as they were put."""
     integers = {"char": 7, "short": 15, "long": 31, "int": 31, "hyper": 63}
-    unsigned = {"unsigned char": 8, "unsigned short": 16, "unsigned long": 32, "unsigned int": 32, "unsigned hyper": 64, "SCODE": 32}
+    unsigned = {
+        "unsigned char": 8,
+        "unsigned short": 16,
+        "unsigned long": 32,
+        "unsigned int": 32,
+        "unsigned hyper": 64,
+        "SCODE": 32,
+    }
     if word.startswith("SAFEARRAY("):
         return [[it, it] for it in values_of(oaut, word[len("SAFEARRAY(") : -1])]
     if word in integers:
@@ -81,12 +100,16 @@ def values_of(oaut, word):
 
 def plain(value):
     """An array as nested lists, anything else as it is."""
-    return [plain(it) for it in value] if hasattr(value, "__iter__") and not isinstance(value, (str, bytes)) else value
+    return (
+        [plain(it) for it in value]
+        if hasattr(value, "__iter__") and not isinstance(value, (str, bytes))
+        else value
+    )
 
 
 def used(oaut, library, program):
-    """Creates each coclass, and of each of its interfaces puts and gets each property with values of its type. Gives how many coclasses, puts and gets
-    there were, and what went wrong."""
+    """Creates each coclass, and of each of its interfaces puts and gets each property with values
+    of its type. Gives how many coclasses, puts and gets there were, and what went wrong."""
     wrong, classes, puts, gets = [], 0, 0, 0
     with oaut.play(library, program=program) as session:
         for coclass in session.library.coclasses:
@@ -99,8 +122,12 @@ def used(oaut, library, program):
                     if member.is_method:
                         continue
                     place = view.property(member.name)
-                    arguments = [values_of(oaut, oaut.type_word(it.vt))[0] for it in member.parameters]
-                    for value in values_of(oaut, oaut.type_word(member.vt)) if member.can_put else [None]:
+                    arguments = [
+                        values_of(oaut, oaut.type_word(it.vt))[0] for it in member.parameters
+                    ]
+                    for value in (
+                        values_of(oaut, oaut.type_word(member.vt)) if member.can_put else [None]
+                    ):
                         try:
                             if member.can_put:
                                 place.put(value, *arguments)
@@ -109,25 +136,35 @@ def used(oaut, library, program):
                                 got = plain(place.get(*arguments))
                                 gets += 1
                                 if member.can_put and got != value:
-                                    wrong.append(f"{coclass.name}.{interface.name}.{member.name}: put {value!r}, got {got!r}")
+                                    wrong.append(
+                                        f"{coclass.name}.{interface.name}.{member.name}: put "
+                                        f"{value!r}, got {got!r}"
+                                    )
                         except Exception as error:
-                            wrong.append(f"{coclass.name}.{interface.name}.{member.name}: {value!r}: {error!r}")
+                            wrong.append(
+                                f"{coclass.name}.{interface.name}.{member.name}: {value!r}: "
+                                f"{error!r}"
+                            )
     return classes, puts, gets, wrong
 
 
 def main():
-    parser = argparse.ArgumentParser(description=__doc__, formatter_class=argparse.RawDescriptionHelpFormatter)
+    parser = argparse.ArgumentParser(
+        description=__doc__, formatter_class=argparse.RawDescriptionHelpFormatter
+    )
     parser.add_argument("--program", metavar="PATH", help="the program")
     parser.add_argument("names", metavar="NAME", nargs="*")
     given = parser.parse_args()
     if given.program:
         os.environ["OAUT_PROGRAM"] = os.path.abspath(given.program)
-    tests = os.path.dirname(os.path.dirname(os.path.abspath(__file__)))
-    sys.path += [f"{tests}/{it}" for it in ("support", "com")]
-    from clients import ENVIRONMENT, PROGRAM, oaut
-    from under_wine import COM, Wine, built, windows
+    from tests.client.clients import ENVIRONMENT, PROGRAM, oaut
+    from tests.com.under_wine import COM, Wine, built, windows
 
-    texts = [it for it in sorted(glob.glob(f"{IDL}/*.idl")) if re.search(rb"^\s*library\s+\w+", open(it, "rb").read(), re.MULTILINE)]
+    texts = [
+        it
+        for it in sorted(glob.glob(f"{IDL}/*.idl"))
+        if re.search(rb"^\s*library\s+\w+", open(it, "rb").read(), re.MULTILINE)
+    ]
     libraries = [it for it in sorted(glob.glob(f"{TYPELIBS}/*")) if has_typelib(it)]
     totals, classes, puts, gets, worst = collections.Counter(), 0, 0, 0, []
     print(f"| From | Interfaces, coclasses | Kept | {' | '.join(REASONS)} | rest |")
@@ -149,11 +186,18 @@ def main():
                     done = subprocess.run(words, env=ENVIRONMENT, capture_output=True, timeout=600)
                 else:
                     words = ["wine", f"{room}/tlb2idl.exe", windows(path), "-o", windows(out)]
-                    done = subprocess.run(words, env=wine.env, stdin=subprocess.DEVNULL, capture_output=True, timeout=600)
+                    done = subprocess.run(
+                        words,
+                        env=wine.env,
+                        stdin=subprocess.DEVNULL,
+                        capture_output=True,
+                        timeout=600,
+                    )
                 report = done.stderr.decode("utf-8", "replace").replace("\r", "")
                 counts = counted(report)
                 if done.returncode or counts is None:
-                    nothing.append(f"{name} ({report.splitlines()[-1].rpartition(': ')[2] if report else done.returncode})")
+                    why = report.splitlines()[-1].rpartition(": ")[2] if report else done.returncode
+                    nothing.append(f"{name} ({why})")
                     continue
                 checked = subprocess.run([PROGRAM, "check", out], capture_output=True)
                 with open(out, "rb") as file:
@@ -163,7 +207,9 @@ def main():
                 classes, puts, gets = classes + told[0], puts + told[1], gets + told[2]
                 worst += [f"{name}: {it}" for it in told[3]]
                 interfaces, coclasses, kept, reasons = counts
-                totals.update({"interfaces": interfaces, "coclasses": coclasses, "kept": kept, **reasons})
+                totals.update(
+                    {"interfaces": interfaces, "coclasses": coclasses, "kept": kept, **reasons}
+                )
                 row = " | ".join(str(reasons[it] or "") for it in (*REASONS, "rest"))
                 print(f"| {name} | {interfaces}, {coclasses} | {kept} | {row} |", flush=True)
         finally:

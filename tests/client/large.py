@@ -1,4 +1,5 @@
-"""A server whose list of objects is a reply of many bytes: `python3 large.py BYTES [--frames]`, over its standard input and output. Its library is empty."""
+"""A server whose list of objects is a reply of many bytes: `python3 large.py BYTES [--frames]`,
+over its standard input and output. Its library is empty."""
 import struct
 import sys
 
@@ -31,7 +32,9 @@ def main():
                 break
             body, held = held[4 : 4 + length], held[4 + length :]
             (opcode,) = struct.unpack_from("<H", body, 4)
-            code, fields = {10: (BAD_INDEX, b""), 11: (0, bytes(size - 16)), 12: (BAD_STUB, b"")}[opcode]
+            code, fields = {10: (BAD_INDEX, b""), 11: (0, bytes(size - 16)), 12: (BAD_STUB, b"")}[
+                opcode
+            ]
             reply = body[:4] + struct.pack("<III", code, 0xFFFF_FFFF, 0) + fields
             record = struct.pack("<I", len(reply)) + reply
             told.write((struct.pack("<II", client, len(record)) if framed else b"") + record)

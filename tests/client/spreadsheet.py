@@ -2,7 +2,8 @@
 
     spreadsheet.py PIPE STEP ..
 
-where a step is  open=PATH,  set=SHEET.CELL=TEXT,  get=SHEET.RANGE  (printed as JSON, a line each),  run=MACRO  or  end.
+where a step is  open=PATH,  set=SHEET.CELL=TEXT,  get=SHEET.RANGE  (printed as JSON, a line each), 
+run=MACRO  or  end.
 """
 import json
 import sys
@@ -21,7 +22,9 @@ def said(name, value):
 def office(pipe):
     """LibreOffice's own context, once it listens."""
     local = uno.getComponentContext()
-    resolver = local.ServiceManager.createInstanceWithContext("com.sun.star.bridge.UnoUrlResolver", local)
+    resolver = local.ServiceManager.createInstanceWithContext(
+        "com.sun.star.bridge.UnoUrlResolver", local
+    )
     until = time.monotonic() + 400
     while True:
         try:
@@ -34,13 +37,17 @@ def office(pipe):
 
 def main():
     context = office(sys.argv[1])
-    desktop = context.ServiceManager.createInstanceWithContext("com.sun.star.frame.Desktop", context)
+    desktop = context.ServiceManager.createInstanceWithContext(
+        "com.sun.star.frame.Desktop", context
+    )
     document = None
     for step in sys.argv[2:]:
         what, _, rest = step.partition("=")
         if what == "open":
             # (4: macros run without a question)
-            document = desktop.loadComponentFromURL(f"file://{rest}", "_blank", 0, (said("Hidden", True), said("MacroExecutionMode", 4)))
+            document = desktop.loadComponentFromURL(
+                f"file://{rest}", "_blank", 0, (said("Hidden", True), said("MacroExecutionMode", 4))
+            )
         elif what == "run":
             script = f"vnd.sun.star.script:oaut_range.py${rest}?language=Python&location=document"
             document.getScriptProvider().getScript(script).invoke((), (), ())

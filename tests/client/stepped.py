@@ -1,5 +1,6 @@
-"""An interrupt at each step of Python that a call of the client takes: `python3 stepped.py PROGRAM LIBRARY CALL [EVERY [FIRST]]` raises it before each
-opcode of the package's own frames in turn, or each EVERYth of them, and prints as JSON how many there were and what went wrong after them."""
+"""An interrupt at each step of Python that a call of the client takes: `python3 stepped.py PROGRAM
+LIBRARY CALL [EVERY [FIRST]]` raises it before each opcode of the package's own frames in turn, or
+each EVERYth of them, and prints as JSON how many there were and what went wrong after them."""
 import contextlib
 import json
 import os
@@ -11,7 +12,8 @@ import oaut
 from oaut import frames
 
 PACKAGE = os.path.dirname(oaut.__file__)
-# of sys.monitoring, which 3.12 and later have: f_trace_opcodes is heeded there by some versions only
+# of sys.monitoring, which 3.12 and later have: f_trace_opcodes is heeded there by some versions
+# only
 _TOOL = 3
 
 
@@ -24,7 +26,8 @@ class Interrupted(BaseException):
 
 
 def is_stepped(code):
-    """Whether a function is the package's. (What a finalizer, or the callback of a weak reference, does is nobody's call: Python drops what it raises.)"""
+    """Whether a function is the package's. (What a finalizer, or the callback of a weak reference,
+    does is nobody's call: Python drops what it raises.)"""
     return code.co_filename.startswith(PACKAGE) and code.co_name not in ("let_go", "ended")
 
 
@@ -42,7 +45,11 @@ class Stepping:
 
     def run(self, act):
         """Whether the call was interrupted."""
-        begin, end = (self._monitor, self._monitor_no_more) if hasattr(sys, "monitoring") else (self._trace, lambda: sys.settrace(None))
+        begin, end = (
+            (self._monitor, self._monitor_no_more)
+            if hasattr(sys, "monitoring")
+            else (self._trace, lambda: sys.settrace(None))
+        )
         begin()
         try:
             act()
@@ -119,7 +126,11 @@ CALLS = {
     "batch": batch,
     "small batches": small_batches,
     "atomic": atomic,
-    "array": lambda server, item, number: (setattr(item, "Grid", [[1, 2]]), item.Grid[0, 1], len(item.Grid)),
+    "array": lambda server, item, number: (
+        setattr(item, "Grid", [[1, 2]]),
+        item.Grid[0, 1],
+        len(item.Grid),
+    ),
     "objects": lambda server, item, number: server.objects(),
     "rows": lambda server, item, number: server.to_rows("Item", "Count", "Name"),
     "dispids": lambda server, item, number: item.dispids("Cell", "Key"),
@@ -188,7 +199,8 @@ def steps_of_call(program, library, act, every, first, begin=alone):
 
 
 def steps_of_leaving(program, library, every, first):
-    """Interrupts `close()` of a session in frames: called again it ends that session alone, and its number is free."""
+    """Interrupts `close()` of a session in frames: called again it ends that session alone, and its
+    number is free."""
     found, at, steps = [], first, 0
     with frames.play(library, program) as shared, shared.session() as other:
         item = other.create("Item")
@@ -236,9 +248,13 @@ def steps_of_beginning_many(program, library, every, first):
         while True:
             made = []
             stepping = Stepping(at)
-            interrupted = stepping.run(lambda: made.append(frames.serve(path, library, program=program)))
+            interrupted = stepping.run(
+                lambda: made.append(frames.serve(path, library, program=program))
+            )
             try:
-                with made.pop() if made else frames.serve(path, library, program=program) as shared, shared.session() as server:
+                with made.pop() if made else frames.serve(
+                    path, library, program=program
+                ) as shared, shared.session() as server:
                     server.objects()
             except Exception as error:
                 found.append(f"{at}, {stepping.place}: {error!r}")
@@ -248,7 +264,8 @@ def steps_of_beginning_many(program, library, every, first):
 
 
 def steps_of_close(program, library, every, first):
-    """Interrupts `close()`: called again it ends the session, the program and its hold of the store."""
+    """Interrupts `close()`: called again it ends the session, the program and its hold of the
+    store."""
     found, at, steps = [], first, 0
     with tempfile.TemporaryDirectory() as room:
         path = f"{room}/it.store"
@@ -284,7 +301,9 @@ def steps_of_beginning(program, library, every, first):
         while True:
             made = []
             stepping = Stepping(at)
-            interrupted = stepping.run(lambda: made.append(oaut.serve(path, library, program=program)))
+            interrupted = stepping.run(
+                lambda: made.append(oaut.serve(path, library, program=program))
+            )
             try:
                 (made.pop() if made else oaut.serve(path, library, program=program)).close()
             except Exception as error:
@@ -324,7 +343,8 @@ def steps_of_locking(program, library, act, every, first):
 
 
 def steps_without_with(program, library, act, every, first):
-    """Interrupts a block, of which only the session can know that it has ended. Requests that were not sent are reported, with their number."""
+    """Interrupts a block, of which only the session can know that it has ended. Requests that were
+    not sent are reported, with their number."""
     found, at, steps = [], first, 0
     while True:
         server = oaut.play(library, program=program)
@@ -363,7 +383,9 @@ def main():
     elif name == "serve":
         steps, found = steps_of_beginning(program, library, *how)
     elif name in ("lock", "update"):
-        steps, found = steps_of_locking(program, library, {"lock": lock, "update": update}[name], *how)
+        steps, found = steps_of_locking(
+            program, library, {"lock": lock, "update": update}[name], *how
+        )
     elif name == "leave":
         steps, found = steps_of_leaving(program, library, *how)
     elif name == "end":

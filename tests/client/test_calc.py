@@ -7,7 +7,7 @@ import subprocess
 import tempfile
 import unittest
 
-from clients import FULL, PACKAGE, PROGRAM, ROOT, ClientCases, oaut
+from tests.client.clients import FULL, PACKAGE, PROGRAM, ROOT, ClientCases, oaut
 
 SOFFICE, PYTHON = shutil.which("soffice"), "/usr/bin/python3"
 SCRIPTS = "/usr/lib/libreoffice/program/pythonscript.py"
@@ -53,14 +53,56 @@ except Exception:
 
 
 def has_uno():
-    return os.path.exists(PYTHON) and subprocess.run([PYTHON, "-c", "import uno"], capture_output=True).returncode == 0
+    return (
+        os.path.exists(PYTHON)
+        and subprocess.run([PYTHON, "-c", "import uno"], capture_output=True).returncode == 0
+    )
 
 
 @unittest.skipUnless(os.path.exists(PROGRAM), "the program is not there")
-@unittest.skipUnless(SOFFICE and os.path.exists(SCRIPTS) and has_uno(), "libreoffice-calc, libreoffice-script-provider-python or python3-uno is not there")
+@unittest.skipUnless(
+    SOFFICE and os.path.exists(SCRIPTS) and has_uno(),
+    "libreoffice-calc, libreoffice-script-provider-python or python3-uno is not there",
+)
 class Calc(ClientCases):
+    def driven(self, room):
+        """What the driver says of the office with the document in a folder."""
+        with open(f"{room}/driver.py", "w") as file:
+            file.write(DRIVER)
+        pipe = f"oaut{os.getpid()}"
+        words = [
+            SOFFICE,
+            "--headless",
+            "--norestore",
+            "--nologo",
+            f"--accept=pipe,name={pipe};urp;",
+            f"-env:UserInstallation=file://{room}/profile",
+        ]
+        # (the office has a Python of its own, which finds its library by the path)
+        office = subprocess.Popen(
+            words,
+            env={"PATH": "/usr/bin:/bin", "HOME": room, "PYTHONPATH": PACKAGE},
+            stdout=subprocess.DEVNULL,
+            stderr=subprocess.DEVNULL,
+            start_new_session=True,
+        )
+        try:
+            done = subprocess.run(
+                [PYTHON, f"{room}/driver.py", pipe, f"file://{room}/objects.ods"],
+                capture_output=True,
+                text=True,
+                timeout=800,
+            )
+        finally:
+            if office.poll() is None:
+                os.killpg(office.pid, 9)
+                office.wait()
+        return done
+
     def test_a_table_of_objects(self):
-        spec = importlib.util.spec_from_file_location("document", f"{ROOT}/examples/calc/document.py")
+        spec = importlib.util.spec_from_file_location(
+            "document", f"{ROOT}/examples/calc/document.py"
+        )
         document = importlib.util.module_from_spec(spec)
         spec.loader.exec_module(document)
         with tempfile.TemporaryDirectory() as room:
@@ -70,35 +112,37 @@ class Calc(ClientCases):
                 for number in (7, 8):
                     item = server.create("Item")
                     item.Count, item.Name = number, f"item {number}"
-            document.make(f"{room}/objects.ods", program=PROGRAM, store=store, library=FULL, coclass="Item")
-            with open(f"{room}/driver.py", "w") as file:
-                file.write(DRIVER)
-            pipe = f"oaut{os.getpid()}"
-            words = [SOFFICE, "--headless", "--norestore", "--nologo", f"--accept=pipe,name={pipe};urp;", f"-env:UserInstallation=file://{room}/profile"]
-            # (the office has a Python of its own, which finds its library by the path)
-            office = subprocess.Popen(
-                words,
-                env={"PATH": "/usr/bin:/bin", "HOME": room, "PYTHONPATH": PACKAGE},
-                stdout=subprocess.DEVNULL,
-                stderr=subprocess.DEVNULL,
-                start_new_session=True,
+            document.make(
+                f"{room}/objects.ods", program=PROGRAM, store=store, library=FULL, coclass="Item"
             )
-            try:
-                done = subprocess.run([PYTHON, f"{room}/driver.py", pipe, f"file://{room}/objects.ods"], capture_output=True, text=True, timeout=800)
-            finally:
-                if office.poll() is None:
-                    os.killpg(office.pid, 9)
-                    office.wait()
+            done = self.driven(room)
             told = [eval(line) for line in done.stdout.splitlines()]
             self.tell("the driver", done.returncode == 0 and len(told) == 4, done.stderr[-2_000:])
             heads = ["object", "Count", "Name", "Price"]
             for place, (status, count, second) in enumerate(
-                (("2 objects", "7", "item 8"), ("put Item 1, Count", "41", "item 8"), (None, "41", "item 8"), ("put Item 2, Name", "41", "two"))
+                (
+                    ("2 objects", "7", "item 8"),
+                    ("put Item 1, Count", "41", "item 8"),
+                    (None, "41", "item 8"),
+                    ("put Item 2, Name", "41", "two"),
+                )
             ):
                 got = told[place] if place < len(told) else []
-                self.same(f"the table behind act {place}", [row[:3] for row in got[1:]], [heads[:3], ["1", count, "item 7"], ["2", "8", second], ["", "", ""]])
+                self.same(
+                    f"the table behind act {place}",
+                    [row[:3] for row in got[1:]],
+                    [heads[:3], ["1", count, "item 7"], ["2", "8", second], ["", "", ""]],
+                )
                 if status:
                     self.same(f"the status behind act {place}", got[0], status)
-            self.tell("what was refused is told", len(told) > 2 and "DISP_E_OVERFLOW" in told[2][0], told[2:3])
+            self.tell(
+                "what was refused is told",
+                len(told) > 2 and "DISP_E_OVERFLOW" in told[2][0],
+                told[2:3],
+            )
             with oaut.serve(store, FULL, program=PROGRAM) as server:
-                self.same("what the store has", [(it.Count, it.Name) for it in server.objects()], [(oaut.I4(41), "item 7"), (oaut.I4(8), "two")])
+                self.same(
+                    "what the store has",
+                    [(it.Count, it.Name) for it in server.objects()],
+                    [(oaut.I4(41), "item 7"), (oaut.I4(8), "two")],
+                )

@@ -6,9 +6,9 @@ import socket
 import subprocess
 import tempfile
 
-from clients import FULL, PROGRAM, ClientCases, oaut
 from oaut import I2, I4, Array, aio, faults
 from oaut import store as stores
+from tests.client.clients import FULL, PROGRAM, ClientCases, oaut
 
 
 class Awaited(ClientCases):
@@ -24,32 +24,75 @@ class Awaited(ClientCases):
                 await item.put("Grid", [[1, 2], [3, 4]])
                 grid = item.array("Grid")
                 await grid.put(9, 0, 1)
-                self.same("values", [await item.get("count"), await item.get("Cell", 5, "k"), await grid.get(0, 1)], [I4(7), "x", I2(9)])
-                self.same("an array", [await grid.bounds(), await grid.value()], [[(2, 0), (2, 0)], Array(I2, [(2, 0), (2, 0)], [1, 9, 3, 4])])
-                self.same("locks, DISPIDs", [await grid.lock(), await grid.unlock(), await item.dispids("Cell", "Key")], [1, 0, [9, 1]])
+                self.same(
+                    "values",
+                    [await item.get("count"), await item.get("Cell", 5, "k"), await grid.get(0, 1)],
+                    [I4(7), "x", I2(9)],
+                )
+                self.same(
+                    "an array",
+                    [await grid.bounds(), await grid.value()],
+                    [[(2, 0), (2, 0)], Array(I2, [(2, 0), (2, 0)], [1, 9, 3, 4])],
+                )
+                self.same(
+                    "locks, DISPIDs",
+                    [await grid.lock(), await grid.unlock(), await item.dispids("Cell", "Key")],
+                    [1, 0, [9, 1]],
+                )
+                self.same(
+                    "objects",
+                    [(it.number, it.coclass, it == item) for it in await server.objects()],
+                    [(1, "Item", True)],
+                )
+                self.same(
+                    "rows", (await server.to_rows("Item", "Count"))[0], {"number": 1, "Count": 7}
+                )
+                await item.release()
+            self.same("it ends", "ended" in repr(server), True)
+
+        self.runs(act)
+
+    def test_what_is_refused(self):
+        async def act():
+            async with aio.play(FULL, program=PROGRAM) as server:
+                item = await server.create("Item")
                 for name, asked, kind, says in (
                     (
                         "a refusal",
                         item.put("Count", "x"),
                         oaut.TypeMismatch,
-                        "put Item.Count = 'x': DISP_E_TYPEMISMATCH (0x80020005), argument 0 (the new value)",
+                        (
+                            "put Item.Count = 'x': DISP_E_TYPEMISMATCH (0x80020005), argument 0 "
+                            "(the new value)"
+                        ),
                     ),
                     (
                         "what is not sent",
                         item.put("Count", 0.5),
                         faults.WrongType,
-                        "put Item.Count = 0.5: there are no floating-point numbers: give oaut.real(0.5), a Currency or a whole number",
+                        (
+                            "put Item.Count = 0.5: there are no floating-point numbers: give "
+                            "oaut.real(0.5), a Currency or a whole number"
+                        ),
                     ),
-                    ("no such member", item.get("Cuont"), faults.NoSuchMember, "Item has no member Cuont: did you mean Count?"),
-                    ("a method", item.call("Clear"), oaut.NotImplementedHere, "call Item.Clear(): E_NOTIMPL (0x80004001)"),
+                    (
+                        "no such member",
+                        item.get("Cuont"),
+                        faults.NoSuchMember,
+                        "Item has no member Cuont: did you mean Count?",
+                    ),
+                    (
+                        "a method",
+                        item.call("Clear"),
+                        oaut.NotImplementedHere,
+                        "call Item.Clear(): E_NOTIMPL (0x80004001)",
+                    ),
                 ):
                     try:
                         await asked
                         self.tell(name, False, "no exception")
                     except kind as error:
                         self.same(name, (type(error), str(error)), (kind, says))
-                self.same("objects", [(it.number, it.coclass, it == item) for it in await server.objects()], [(1, "Item", True)])
-                self.same("rows", (await server.to_rows("Item", "Count"))[0], {"number": 1, "Count": 7})
                 await item.release()
             self.same("it ends", "ended" in repr(server), True)
 
@@ -68,7 +111,11 @@ class Awaited(ClientCases):
                         seen = [await it.get("Count") for it in items]
                         # another task is in no batch
                         beside = await asyncio.ensure_future(items[0].get("Count"))
-                    self.same("answers of a batch", ([it.value for it in seen], beside, batch.failures), ([I4(it) for it in range(1, 11)], I4(1), []))
+                    self.same(
+                        "answers of a batch",
+                        ([it.value for it in seen], beside, batch.failures),
+                        ([I4(it) for it in range(1, 11)], I4(1), []),
+                    )
                     asked = asyncio.ensure_future(items[0].get("Name"))
                     await asyncio.sleep(0)
                     asked.cancel()
@@ -79,7 +126,11 @@ class Awaited(ClientCases):
                             await items[0].put("Count", 100)
                         self.tell("a refusal in a batch", False)
                     except oaut.TypeMismatch:
-                        self.same("the others of it", (len(batch.failures), await items[0].get("Count")), (1, I4(100)))
+                        self.same(
+                            "the others of it",
+                            (len(batch.failures), await items[0].get("Count")),
+                            (1, I4(100)),
+                        )
                 async with aio.serve(path, program=PROGRAM) as server:
                     items = await server.objects()
                     async with server.atomic():
@@ -92,11 +143,17 @@ class Awaited(ClientCases):
                         self.tell("what does not fit", False)
                     except ValueError as error:
                         self.same(
-                            "what does not fit", (str(error), await items[0].get("Count")), ("a group has at most 1024 requests: nothing was sent", I4(5))
+                            "what does not fit",
+                            (str(error), await items[0].get("Count")),
+                            ("a group has at most 1024 requests: nothing was sent", I4(5)),
                         )
                 with open(path, "rb") as file:
                     groups = [it.events for it in stores.read(file.read()).groups]
-                self.same("tasks that ask at one moment share a group, a block is one", (groups[:2], groups[-1]), ([10, 10], 10))
+                self.same(
+                    "tasks that ask at one moment share a group, a block is one",
+                    (groups[:2], groups[-1]),
+                    ([10, 10], 10),
+                )
 
         self.runs(act)
 
@@ -123,7 +180,13 @@ class Awaited(ClientCases):
                 self.same(
                     "no answer in time",
                     (str(end), end.may_stand),
-                    ("no reply within 0.2 seconds; a request without a reply was executed completely or not at all", True),
+                    (
+                        (
+                            "no reply within 0.2 seconds; a request without a reply was executed "
+                            "completely or not at all"
+                        ),
+                        True,
+                    ),
                 )
             await server.close()
             for name, opening, kind in (

@@ -1,13 +1,14 @@
-"""How a session for asyncio ends, and goes on over another connection, while tasks ask and are cancelled."""
+"""How a session for asyncio ends, and goes on over another connection, while tasks ask and are
+cancelled."""
 import asyncio
 import contextlib
 import socket
 import sys
 import threading
 
-from asked import Answering
-from clients import FULL, PROGRAM, ClientCases, oaut
 from oaut import aio
+from tests.client.clients import FULL, PROGRAM, ClientCases, oaut
+from tests.support.asked import Answering
 
 # a program whose end comes a while after that of its input
 SLOW_END = """
@@ -51,7 +52,9 @@ class Peer:
                 connection, _ = self.listener.accept()
                 self.connections.append(connection)
                 self.seen.append([])
-                threading.Thread(target=self.serve, args=(connection, self.seen[-1]), daemon=True).start()
+                threading.Thread(
+                    target=self.serve, args=(connection, self.seen[-1]), daemon=True
+                ).start()
 
     def serve(self, connection, seen):
         rest = b""
@@ -93,7 +96,8 @@ class AioEnds(ClientCases):
         return asyncio.run(asyncio.wait_for(act(), 300))
 
     def test_an_atomic_block_over_a_new_connection(self):
-        """What another task has asked is in a group before it, and in none with it: a group has four requests here."""
+        """What another task has asked is in a group before it, and in none with it: a group has
+        four requests here."""
         with Peer() as peer:
 
             async def act():
@@ -131,7 +135,12 @@ class AioEnds(ClientCases):
                     got = "connected again"
                 except oaut.SessionEnded as end:
                     got = str(end)
-                self.tell(name, ("its locks of arrays with it" in got, got == "connected again") == (keeps, not keeps), got)
+                self.tell(
+                    name,
+                    ("its locks of arrays with it" in got, got == "connected again")
+                    == (keeps, not keeps),
+                    got,
+                )
             with Peer() as peer:
 
                 async def act():
@@ -152,7 +161,12 @@ class AioEnds(ClientCases):
                         return str(end)
 
                 got = self.runs(act)
-                self.tell(f"{name}, awaited", ("its locks of arrays with it" in got, got == "connected again") == (keeps, not keeps), got)
+                self.tell(
+                    f"{name}, awaited",
+                    ("its locks of arrays with it" in got, got == "connected again")
+                    == (keeps, not keeps),
+                    got,
+                )
 
     def test_the_exception_of_a_block_that_has_a_lock(self):
         """It is raised also if the lock cannot be given back."""
@@ -173,7 +187,8 @@ class AioEnds(ClientCases):
             self.same("it is the block's own", self.runs(act), "KeyError('mine')")
 
     def test_connections_that_end_with_their_first_reply(self):
-        """As those of a server that is killed then: they are dialled again, as long as patience lasts."""
+        """As those of a server that is killed then: they are dialled again, as long as patience
+        lasts."""
         with EndsAtFirst(3) as peer:
 
             async def act():
@@ -183,7 +198,11 @@ class AioEnds(ClientCases):
             async def in_time():
                 return await asyncio.wait_for(act(), 60)
 
-            self.tell("the fourth one serves", self.runs(in_time) == 1 and len(peer.seen) == 4, len(peer.seen))
+            self.tell(
+                "the fourth one serves",
+                self.runs(in_time) == 1 and len(peer.seen) == 4,
+                len(peer.seen),
+            )
 
     def test_a_close_that_is_cancelled_is_called_again(self):
         async def act():
@@ -205,7 +224,8 @@ class AioEnds(ClientCases):
         self.runs(act)
 
     def test_a_peer_that_reads_nothing_is_left(self):
-        """Of requests whose tasks were cancelled nobody waits for a reply, so that what the peer does not take ends with the session."""
+        """Of requests whose tasks were cancelled nobody waits for a reply, so that what the peer
+        does not take ends with the session."""
         with Peer(deaf_after=CREATE) as peer:
             ours, theirs = socket.socketpair()
             peer.connections += [ours, theirs]

@@ -1,5 +1,5 @@
-"""What bounds a session for asyncio: the time to connect, the memory of requests that nobody reads, the cost of a long reply; and what it does
-when the server lets a connection go."""
+"""What bounds a session for asyncio: the time to connect, the memory of requests that nobody reads,
+the cost of a long reply; and what it does when the server lets a connection go."""
 import asyncio
 import contextlib
 import os
@@ -11,9 +11,9 @@ import threading
 import time
 import tracemalloc
 
-import test_client_sessions as sessions
-from clients import FULL, PROGRAM, ROOT, ClientCases, oaut
 from oaut import I4, aio, frames
+from tests.client import test_client_sessions as sessions
+from tests.client.clients import FULL, PROGRAM, ROOT, ClientCases, oaut
 
 LARGE = f"{ROOT}/tests/client/large.py"
 MIB = 1_048_576
@@ -23,7 +23,11 @@ MIB = 1_048_576
 def large(size, *words, pipes=False):
     """A socket, or two pipes, of a server whose list of objects has so many bytes."""
     ours, theirs = socket.socketpair()
-    how = {"stdin": subprocess.PIPE, "stdout": subprocess.PIPE, "bufsize": 0} if pipes else {"stdin": theirs, "stdout": theirs}
+    how = (
+        {"stdin": subprocess.PIPE, "stdout": subprocess.PIPE, "bufsize": 0}
+        if pipes
+        else {"stdin": theirs, "stdout": theirs}
+    )
     with subprocess.Popen([sys.executable, LARGE, str(size), *words], **how) as child, ours:
         theirs.close()
         yield child if pipes else ours
@@ -53,7 +57,9 @@ class AioLimits(ClientCases):
         return None, time.monotonic() - begun
 
     def test_connecting_has_a_timeout(self):
-        with socket.create_server(("127.0.0.1", 0), backlog=1) as listener, contextlib.ExitStack() as others:
+        with socket.create_server(
+            ("127.0.0.1", 0), backlog=1
+        ) as listener, contextlib.ExitStack() as others:
             for _ in range(4):  # (until the listener takes no more)
                 other = others.enter_context(socket.socket())
                 other.setblocking(False)
@@ -72,7 +78,10 @@ class AioLimits(ClientCases):
 
             async def act():
                 link = await aio._dialled(listener.getsockname(), "raw", 10, 0)
-                found = [link.sock.getsockopt(socket.SOL_SOCKET, socket.SO_KEEPALIVE), link.sock.getsockopt(socket.IPPROTO_TCP, socket.TCP_NODELAY)]
+                found = [
+                    link.sock.getsockopt(socket.SOL_SOCKET, socket.SO_KEEPALIVE),
+                    link.sock.getsockopt(socket.IPPROTO_TCP, socket.TCP_NODELAY),
+                ]
                 link.transport.abort()
                 return found
 
@@ -85,10 +94,19 @@ class AioLimits(ClientCases):
                 await aio.connect(f"{room}/socket", patience=0.3)
 
             error, seconds = self.raised(nobody)
-            self.tell("nobody comes", isinstance(error, FileNotFoundError) and 0.3 <= seconds < 60, (error, seconds))
+            self.tell(
+                "nobody comes",
+                isinstance(error, FileNotFoundError) and 0.3 <= seconds < 60,
+                (error, seconds),
+            )
             with contextlib.ExitStack() as until:
                 dialled = sessions.Dialled()
-                timer = threading.Timer(0.4, lambda: until.enter_context(dialled.listening(f"{room}/socket", [PROGRAM, "play", FULL])))
+                timer = threading.Timer(
+                    0.4,
+                    lambda: until.enter_context(
+                        dialled.listening(f"{room}/socket", [PROGRAM, "play", FULL])
+                    ),
+                )
 
                 async def act():
                     timer.start()
@@ -103,7 +121,9 @@ class AioLimits(ClientCases):
     def test_what_was_let_go_is_connected_again(self):
         dialled = sessions.Dialled()
         with sessions.stores_of() as path, tempfile.TemporaryDirectory() as room:
-            with dialled.listening(f"{room}/socket", [PROGRAM, "serve", path, FULL, "--group", "64"]) as seen:
+            with dialled.listening(
+                f"{room}/socket", [PROGRAM, "serve", path, FULL, "--group", "64"]
+            ) as seen:
 
                 async def act():
                     async with aio.connect(f"{room}/socket", timeout=60) as server:
@@ -111,7 +131,9 @@ class AioLimits(ClientCases):
                         await item.put("Count", 7)
                         for count in (1, 2):
                             await asyncio.to_thread(dialled.let_go, seen, count)
-                            self.same(f"over connection {count + 1}", await item.get("Count"), I4(7))
+                            self.same(
+                                f"over connection {count + 1}", await item.get("Count"), I4(7)
+                            )
                         await item.put("Grid", [1, 2])
                         await item.array("Grid").lock()
                         await asyncio.to_thread(dialled.let_go, seen, 3)
@@ -145,11 +167,14 @@ class AioLimits(ClientCases):
             self.same("it is reported", self.runs(act), "LibraryDiffers")
 
     def test_requests_that_nobody_reads(self):
-        """60 puts of 1 MiB to a peer that does not read: the tasks wait, and what waits to be sent has a bound."""
+        """60 puts of 1 MiB to a peer that does not read: the tasks wait, and what waits to be sent
+        has a bound."""
 
         async def act():
             ours, theirs = socket.socketpair()
-            with theirs, subprocess.Popen([PROGRAM, "play", FULL], stdin=theirs, stdout=theirs) as child:
+            with theirs, subprocess.Popen(
+                [PROGRAM, "play", FULL], stdin=theirs, stdout=theirs
+            ) as child:
                 server = await aio.connect(ours)
                 item = await server.create("Item")
                 os.kill(child.pid, 19)
@@ -187,8 +212,9 @@ class AioLimits(ClientCases):
         self.tell("it stays below 2 MiB", most < 2 * MIB, most)
 
     def test_a_long_reply(self):
-        """8 MiB cost aio and frames about what they cost the client that waits: its time is compared in one run, with a wide margin for a machine
-        that has other work, and the best of up to three runs counts."""
+        """8 MiB cost aio and frames about what they cost the client that waits: its time is
+        compared in one run, with a wide margin for a machine that has other work, and the best of
+        up to three runs counts."""
         for turn in range(3):
             waiting, awaited, framed = self.seconds_of_a_long_reply(8 * MIB, oaut.ask_list())
             if max(awaited, framed) < 3 * waiting + 0.02:
@@ -200,7 +226,9 @@ class AioLimits(ClientCases):
         """What it costs the client that waits, aio and frames."""
         with large(size) as sock:
             server = oaut.connect(sock)
-            waiting = least(3, lambda: self.same("its bytes", len(server.exchange([asked])[0]), size))
+            waiting = least(
+                3, lambda: self.same("its bytes", len(server.exchange([asked])[0]), size)
+            )
             server.close()
 
         async def act():
@@ -216,8 +244,12 @@ class AioLimits(ClientCases):
             return min(found)
 
         awaited = self.runs(act)
-        with large(size, "--frames", pipes=True) as child, frames.Shared(child.stdout, child.stdin) as shared, shared.session() as server:
-            framed = least(3, lambda: self.same("its bytes in frames", len(server.exchange([asked])[0]), size))
+        with large(size, "--frames", pipes=True) as child, frames.Shared(
+            child.stdout, child.stdin
+        ) as shared, shared.session() as server:
+            framed = least(
+                3, lambda: self.same("its bytes in frames", len(server.exchange([asked])[0]), size)
+            )
         return waiting, awaited, framed
 
     def test_a_long_line(self):
@@ -226,7 +258,9 @@ class AioLimits(ClientCases):
         ours, theirs = socket.socketpair()
         with ours, theirs:
             line = (bytes([1, 0, 0, 0]) + oaut.ask_list()[:0] + bytes(size)).hex().encode() + b"\n"
-            threading.Thread(target=lambda: (theirs.recv(4096), theirs.sendall(line)), daemon=True).start()
+            threading.Thread(
+                target=lambda: (theirs.recv(4096), theirs.sendall(line)), daemon=True
+            ).start()
             server = oaut.connect(ours, framing="lines", group=1)
             begun = time.process_time()
             self.same("its bytes", len(server.exchange([oaut.ask_list()])[0]), size + 4)
@@ -237,11 +271,34 @@ class AioLimits(ClientCases):
             async with aio.play(FULL, program=PROGRAM) as server:
                 item = await server.create("Item")
                 for name, access, says in (
-                    ("a get", lambda: item.Count, "Item.Count is awaited in oaut.aio: await item.get('Count')"),
-                    ("a put", lambda: setattr(item, "count", 5), "Item.Count is awaited in oaut.aio: await item.put('count', value)"),
-                    ("an array", lambda: item.Grid, "Item.Grid is awaited in oaut.aio: item.array('Grid'), or await item.get('Grid')"),
-                    ("a method", lambda: item.Clear, "Item.Clear is awaited in oaut.aio: await item.call('Clear')"),
-                    ("no member", lambda: item.Cuont, "Item has no member Cuont: did you mean Count?"),
+                    (
+                        "a get",
+                        lambda: item.Count,
+                        "Item.Count is awaited in oaut.aio: await item.get('Count')",
+                    ),
+                    (
+                        "a put",
+                        lambda: setattr(item, "count", 5),
+                        "Item.Count is awaited in oaut.aio: await item.put('count', value)",
+                    ),
+                    (
+                        "an array",
+                        lambda: item.Grid,
+                        (
+                            "Item.Grid is awaited in oaut.aio: item.array('Grid'), or await "
+                            "item.get('Grid')"
+                        ),
+                    ),
+                    (
+                        "a method",
+                        lambda: item.Clear,
+                        "Item.Clear is awaited in oaut.aio: await item.call('Clear')",
+                    ),
+                    (
+                        "no member",
+                        lambda: item.Cuont,
+                        "Item has no member Cuont: did you mean Count?",
+                    ),
                 ):
                     self.raises(name, AttributeError, access, says)
                 self.tell("a copy protocol's question", not hasattr(item, "__len__"))

@@ -6,8 +6,17 @@ import sys
 import tempfile
 import unittest
 
-from clients import ENVIRONMENT, FULL, LIBRARY, PACKAGE, PROGRAM, ClientCases, oaut, play
 from oaut import Library, stubs
+from tests.client.clients import (
+    ENVIRONMENT,
+    FULL,
+    LIBRARY,
+    PACKAGE,
+    PROGRAM,
+    ClientCases,
+    oaut,
+    play,
+)
 
 COMPLETE = """import sys
 from IPython.core.completer import provisionalcompleter
@@ -25,7 +34,11 @@ def pythons_with(*modules):
     """The Pythons of this machine that have some modules."""
     found = dict.fromkeys((sys.executable, "/usr/bin/python3"))
     words = ["-c", f"import {', '.join(modules)}"]
-    return [it for it in found if os.path.exists(it) and subprocess.run([it, *words], capture_output=True).returncode == 0]
+    return [
+        it
+        for it in found
+        if os.path.exists(it) and subprocess.run([it, *words], capture_output=True).returncode == 0
+    ]
 
 
 PYTHONS = pythons_with("IPython", "jedi")
@@ -39,28 +52,58 @@ class Completion(ClientCases):
         """What IPython's completer offers behind a text, with jedi as by default."""
         with tempfile.TemporaryDirectory() as room:
             words = [PYTHONS[0], "-c", COMPLETE, FULL, PROGRAM, text]
-            done = subprocess.run(words, env={**ENVIRONMENT, "HOME": room, "IPYTHONDIR": room}, capture_output=True, text=True, timeout=300)
+            done = subprocess.run(
+                words,
+                env={**ENVIRONMENT, "HOME": room, "IPYTHONDIR": room},
+                capture_output=True,
+                text=True,
+                timeout=300,
+            )
         self.same(f"the completer of {text}", (done.returncode, done.stderr[-500:]), (0, ""))
         return done.stdout.split()
 
     def test_the_package(self):
         found = self.completed("oaut.")
-        self.same("what every script needs", [it for it in ("connect", "open", "play", "serve", "Refused") if it not in found], [])
+        self.same(
+            "what every script needs",
+            [it for it in ("connect", "open", "play", "serve", "Refused") if it not in found],
+            [],
+        )
         modules = {it.partition(".")[0] for it in os.listdir(os.path.dirname(oaut.__file__))}
-        self.same("no name of the codec", [it for it in found if it not in oaut.__all__ and it not in modules], [])
+        self.same(
+            "no name of the codec",
+            [it for it in found if it not in oaut.__all__ and it not in modules],
+            [],
+        )
 
     def test_a_session(self):
         found = self.completed("server.")
-        self.same("what every script needs", [it for it in ("create", "objects", "library", "close") if it not in found], [])
-        self.same("what the package itself calls", [it for it in ("ask", "begin", "exchange", "note_lock", "trace") if it in found], [])
+        self.same(
+            "what every script needs",
+            [it for it in ("create", "objects", "library", "close") if it not in found],
+            [],
+        )
+        self.same(
+            "what the package itself calls",
+            [it for it in ("ask", "begin", "exchange", "note_lock", "trace") if it in found],
+            [],
+        )
 
     def test_an_object(self):
-        self.same("its members", [it for it in ("Count", "Cell", "Grid") if it not in self.completed("item.")], [])
+        self.same(
+            "its members",
+            [it for it in ("Count", "Cell", "Grid") if it not in self.completed("item.")],
+            [],
+        )
 
 
 class Names(ClientCases):
     def test_the_codec_stands_in_submodules(self):
-        self.same("names of records", [it for it in ("ask_create", "INVOKE", "read_reply") if it in dir(oaut)], [])
+        self.same(
+            "names of records",
+            [it for it in ("ask_create", "INVOKE", "read_reply") if it in dir(oaut)],
+            [],
+        )
         self.same("its submodules", [it for it in ("records", "wire") if it not in dir(oaut)], [])
 
     def test_scripts_of_before_find_them(self):
@@ -80,10 +123,32 @@ class Names(ClientCases):
         found = [it for it in dir(server) if not it.startswith("_")]
         self.same(
             "what the package itself calls",
-            [it for it in ("ask", "begin", "described", "exchange", "forked", "next_tag", "note_lock", "trace", "was_done") if it in found],
+            [
+                it
+                for it in (
+                    "ask",
+                    "begin",
+                    "described",
+                    "exchange",
+                    "forked",
+                    "next_tag",
+                    "note_lock",
+                    "trace",
+                    "was_done",
+                )
+                if it in found
+            ],
             [],
         )
-        self.same("what a user calls", [it for it in ("atomic", "batch", "close", "create", "library", "objects") if it not in found], [])
+        self.same(
+            "what a user calls",
+            [
+                it
+                for it in ("atomic", "batch", "close", "create", "library", "objects")
+                if it not in found
+            ],
+            [],
+        )
 
 
 @unittest.skipUnless(os.path.exists(PROGRAM), "the program is not there")
@@ -98,7 +163,9 @@ class Notebook(ClientCases):
             item.Count, item.Name = 1234, "<b>"
             shown = item._repr_html_()
         self.tell("a number", "<td>Count</td><td>I4(1234)</td>" in shown, shown)
-        self.tell("a text, as a text", "<td>Name</td><td>&#x27;&lt;b&gt;&#x27;</td>" in shown, shown)
+        self.tell(
+            "a text, as a text", "<td>Name</td><td>&#x27;&lt;b&gt;&#x27;</td>" in shown, shown
+        )
 
     def test_within_a_batch(self):
         with oaut.play(FULL, PROGRAM) as server:
@@ -130,7 +197,12 @@ with typing.cast("full.Server", oaut.play("full.idl")) as server:
 """
 
 
-LINES = ["item.Cuont = 5", "print(item.Cuont)", 'print(item.number, item.coclass, item.dispids("Count"))', 'oaut.conect("it.sock")']
+LINES = [
+    "item.Cuont = 5",
+    "print(item.Cuont)",
+    'print(item.number, item.coclass, item.dispids("Count"))',
+    'oaut.conect("it.sock")',
+]
 
 
 @unittest.skipIf(CHECKER is None, "mypy is not there")
@@ -143,7 +215,13 @@ class Checked(ClientCases):
                 file.write(stubs.text_of(LIBRARY, "full", "full.idl"))
             with open(f"{room}/it.py", "w") as file:
                 file.write(USED + "".join(f"    {it}\n" for it in LINES))
-            done = subprocess.run([CHECKER, "it.py"], cwd=room, env={**os.environ, "MYPYPATH": PACKAGE}, capture_output=True, text=True)
+            done = subprocess.run(
+                [CHECKER, "it.py"],
+                cwd=room,
+                env={**os.environ, "MYPYPATH": PACKAGE},
+                capture_output=True,
+                text=True,
+            )
         cls.said = done.stdout
 
     def checked(self, number):
@@ -152,10 +230,14 @@ class Checked(ClientCases):
         return [it for it in self.said.splitlines() if it.startswith(f"it.py:{line}:")]
 
     def test_a_put_of_a_name_that_is_none(self):
-        self.tell("it is refused", '"Item" has no attribute "Cuont"' in str(self.checked(0)), self.said)
+        self.tell(
+            "it is refused", '"Item" has no attribute "Cuont"' in str(self.checked(0)), self.said
+        )
 
     def test_a_get_of_a_name_that_is_none(self):
-        self.tell("it is refused", '"Item" has no attribute "Cuont"' in str(self.checked(1)), self.said)
+        self.tell(
+            "it is refused", '"Item" has no attribute "Cuont"' in str(self.checked(1)), self.said
+        )
 
     def test_what_each_object_has(self):
         self.same("nothing is said", self.checked(2), [])
@@ -164,22 +246,41 @@ class Checked(ClientCases):
         """Members, parameters and coclasses whose names are words of Python or of the stubs."""
         guid = "11223344-5566-7788-99aa-bbccddeef00"
         text = (
-            f"[uuid({guid}1)] library L {{ [uuid({guid}2)] dispinterface DItem {{ properties: [id(1)] VARIANT_BOOL bool; [id(2)] VARIANT object;"
-            " [id(3)] VARIANT_BOOL Flag; methods: [id(6), propget] BSTR Cell([in] long value, [in] BSTR self);"
-            " [id(6), propput] void Cell([in] long value, [in] BSTR self, [in] BSTR NewValue); [id(7)] void Do([in] long self); }"
-            f" [uuid({guid}3)] coclass None {{ dispinterface DItem; }} [uuid({guid}4)] coclass Server {{ dispinterface DItem; }} }}"
+            f"[uuid({guid}1)] library L {{ [uuid({guid}2)] dispinterface DItem {{ properties: "
+            "[id(1)] VARIANT_BOOL bool; [id(2)] VARIANT object;"
+            " [id(3)] VARIANT_BOOL Flag; methods: [id(6), propget] BSTR Cell([in] long value, [in] "
+            "BSTR self);"
+            " [id(6), propput] void Cell([in] long value, [in] BSTR self, [in] BSTR NewValue); "
+            "[id(7)] void Do([in] long self); }"
+            f" [uuid({guid}3)] coclass None {{ dispinterface DItem; }} [uuid({guid}4)] coclass "
+            f"Server {{ dispinterface DItem; }} }}"
         )
         used = (
-            'import typing\nimport oaut\nif typing.TYPE_CHECKING:\n    import it\nwith typing.cast("it.Server", oaut.play("it.idl")) as server:\n'
-            '    item = server.create("Server")\n    item.Flag = True\n    flag: bool = item.Flag\n    item.Cell.put("x", Value=5, Self="k")\n    item.Cell[5, "k"] = "y"\n'
+            "import typing\nimport oaut\nif typing.TYPE_CHECKING:\n    import it\n"
+            'with typing.cast("it.Server", oaut.play("it.idl")) as server:\n'
+            '    item = server.create("Server")\n    item.Flag = True\n    flag: bool = item.Flag\n'
+            '    item.Cell.put("x", Value=5, Self="k")\n    item.Cell[5, "k"] = "y"\n'
         )
         with tempfile.TemporaryDirectory() as room:
-            for name, content in (("it.pyi", stubs.text_of(Library.from_text(text), "it", 'a\\Users"""b.idl')), ("use.py", used), ("it.idl", text)):
+            for name, content in (
+                ("it.pyi", stubs.text_of(Library.from_text(text), "it", 'a\\Users"""b.idl')),
+                ("use.py", used),
+                ("it.idl", text),
+            ):
                 with open(f"{room}/{name}", "w") as file:
                     file.write(content)
-            how = {"cwd": room, "env": {**os.environ, "MYPYPATH": PACKAGE}, "capture_output": True, "text": True}
+            how = {
+                "cwd": room,
+                "env": {**os.environ, "MYPYPATH": PACKAGE},
+                "capture_output": True,
+                "text": True,
+            }
             done = subprocess.run([CHECKER, "--strict", "it.pyi", "use.py"], **how)
-            self.same("nothing is said", (done.returncode, done.stdout.splitlines()[:5]), (0, ["Success: no issues found in 2 source files"]))
+            self.same(
+                "nothing is said",
+                (done.returncode, done.stdout.splitlines()[:5]),
+                (0, ["Success: no issues found in 2 source files"]),
+            )
             with play(f"{room}/it.idl") as server:
                 item = server.create("Server")
                 item.Cell.put("x", Value=5, Self="k")

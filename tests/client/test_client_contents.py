@@ -11,11 +11,20 @@ import sys
 import tempfile
 from unittest import mock
 
-from clients import ENVIRONMENT, ClientCases, oaut
 from oaut import commands, contents, dumps, files
 from oaut import store as stores
-from running import fill
-from test_client_backup import ARRAYS, CLASS, FACE, SCALARS, TEXT, command, created, text
+from tests.client.clients import ENVIRONMENT, ClientCases, oaut
+from tests.client.test_client_backup import (
+    ARRAYS,
+    CLASS,
+    FACE,
+    SCALARS,
+    TEXT,
+    command,
+    created,
+    text,
+)
+from tests.support.running import fill
 
 OTHER = bytes(range(16))
 
@@ -43,7 +52,11 @@ class Drawn:
                 some = self.of_array(cells[where])
             else:
                 key = tuple(draw.choice(SCALARS) for _ in range(draw.choice([0, 0, 0, 1, 2])))
-                where = (draw.choice([FACE.bytes_le, OTHER]), draw.choice([-5, 1, 2, 2**31 - 1]), key)
+                where = (
+                    draw.choice([FACE.bytes_le, OTHER]),
+                    draw.choice([-5, 1, 2, 2**31 - 1]),
+                    key,
+                )
                 some = None, stores.value_image(draw.choice([*SCALARS, *ARRAYS, *ARRAYS]))
             kind, content = some if some[0] else (3, some[1])
             some = struct.pack("<BI", kind, number) + stores.place_image(where) + content
@@ -54,9 +67,15 @@ class Drawn:
         draw, cells = self.draw, stores.cells_of(array.bounds)
         if draw.random() < 0.3 or not cells:
             return 5, struct.pack("<Ii", draw.randrange(5), draw.randrange(-3, 3))
-        of = draw.choice(SCALARS) if array.vt == stores.VARIANT else draw.choice([it for it in SCALARS if it[0] == array.vt])
+        of = (
+            draw.choice(SCALARS)
+            if array.vt == stores.VARIANT
+            else draw.choice([it for it in SCALARS if it[0] == array.vt])
+        )
         indices = [lowest + draw.randrange(size) for size, lowest in array.bounds]
-        return 4, struct.pack(f"<H{len(indices)}i", len(indices), *indices) + stores.scalar_image(of)
+        return 4, struct.pack(f"<H{len(indices)}i", len(indices), *indices) + stores.scalar_image(
+            of
+        )
 
 
 def drawn(seed, room):
@@ -65,8 +84,19 @@ def drawn(seed, room):
     events = Drawn(draw)
     disk = draw.choice([stores.formatted, stores.formatted_before])(TEXT)
     for _ in range(draw.choice([0, 1, 1, 2])):
-        disk = stores.settled(stores.add(disk, *(b"".join(events.event() for _ in range(draw.choice([1, 9]))) for _ in range(20))))
-    disk = stores.add(disk, *(b"".join(events.event() for _ in range(draw.choice([1, 1, 2, 30]))) for _ in range(draw.randrange(40))))
+        disk = stores.settled(
+            stores.add(
+                disk,
+                *(b"".join(events.event() for _ in range(draw.choice([1, 9]))) for _ in range(20)),
+            )
+        )
+    disk = stores.add(
+        disk,
+        *(
+            b"".join(events.event() for _ in range(draw.choice([1, 1, 2, 30])))
+            for _ in range(draw.randrange(40))
+        ),
+    )
     fill(room, {"it.store": bytes(disk)})
     return f"{room}/it.store"
 
@@ -104,11 +134,17 @@ class Contents(ClientCases):
                 self.same(f"what is read, seed {seed}", streamed(path), whole(path))
                 out = io.StringIO()
                 dumps.write_dump(path, out)
-                with open(f"{room}/json", "w+", encoding="utf-8") as file, mock.patch.object(dumps, "READ", 50), mock.patch.object(contents, "WRITTEN", 60):
+                with open(f"{room}/json", "w+", encoding="utf-8") as file, mock.patch.object(
+                    dumps, "READ", 50
+                ), mock.patch.object(contents, "WRITTEN", 60):
                     file.write(out.getvalue())
                     file.seek(0)
                     dumps.restore(file, f"{room}/restored")
-                self.same(f"what is restored of its dump, seed {seed}", whole(f"{room}/restored"), whole(path))
+                self.same(
+                    f"what is restored of its dump, seed {seed}",
+                    whole(f"{room}/restored"),
+                    whole(path),
+                )
 
     def test_damaged_stores(self):
         draw = random.Random(7)
@@ -121,14 +157,24 @@ class Contents(ClientCases):
                     for turn in range(16):
                         at = draw.randrange(bank.table, end + 1)
                         was = os.pread(file.fileno(), 1, at)
-                        os.pwrite(file.fileno(), bytes([draw.choice([0, 1, 255, was[0] ^ 1 << draw.randrange(8)])]), at)
-                        self.same(f"damage {turn} at {at}, seed {seed}", streamed(path), whole(path))
+                        os.pwrite(
+                            file.fileno(),
+                            bytes([draw.choice([0, 1, 255, was[0] ^ 1 << draw.randrange(8)])]),
+                            at,
+                        )
+                        self.same(
+                            f"damage {turn} at {at}, seed {seed}", streamed(path), whole(path)
+                        )
                         os.pwrite(file.fileno(), was, at)
                     for run in list(files.runs(file.fileno(), bank))[-3:]:
                         was = os.pread(file.fileno(), 4, run.place + 1)
                         for length in (0, run.events - 1, run.events + 1, 0xFFFF_FFFF):
                             os.pwrite(file.fileno(), struct.pack("<I", length), run.place + 1)
-                            self.same(f"a group of {length} bytes at {run.place}, seed {seed}", streamed(path), whole(path))
+                            self.same(
+                                f"a group of {length} bytes at {run.place}, seed {seed}",
+                                streamed(path),
+                                whole(path),
+                            )
                         os.pwrite(file.fileno(), was, run.place + 1)
 
     def test_dumps_that_others_have_written(self):
@@ -138,7 +184,11 @@ class Contents(ClientCases):
             path = drawn(3, room)
             told = dumps.dump(path)
             sorted_text = json.dumps(told, sort_keys=True, indent=3)
-            for name, given in (("sorted", sorted_text), ("on a line", json.dumps(told, separators=(",", ":"))), ("more", json.dumps({"more": [1], **told}))):
+            for name, given in (
+                ("sorted", sorted_text),
+                ("on a line", json.dumps(told, separators=(",", ":"))),
+                ("more", json.dumps({"more": [1], **told})),
+            ):
                 self.same(name, command("restore", "-", f"{room}/{name}", given=given), (0, "", ""))
                 self.same(f"{name}: what it holds", whole(f"{room}/{name}"), whole(path))
             dumps.restore({**told, "objects": told["objects"][::-1]}, f"{room}/turned")
@@ -148,21 +198,37 @@ class Contents(ClientCases):
             self.same(
                 "a text in another order",
                 command("restore", "-", f"{room}/new", given=wrong),
-                (1, "", "python3 -m oaut: the dump is no table: " f"object {first} comes after {second}\n"),
+                (
+                    1,
+                    "",
+                    "python3 -m oaut: the dump is no table: "
+                    f"object {first} comes after {second}\n",
+                ),
             )
             for name, given, says in (
                 ("empty", "", "the end instead of { at character 0"),
                 ("cut", sorted_text[:-9], None),
-                ("more behind", sorted_text + "}", f"there is more at character {len(sorted_text)}"),
+                (
+                    "more behind",
+                    sorted_text + "}",
+                    f"there is more at character {len(sorted_text)}",
+                ),
                 ("no colon", '{"dump" 1}', "1 instead of : at character 8"),
             ):
                 status, out, err = command("restore", "-", f"{room}/new", given=given)
                 self.tell(
                     f"{name}: no JSON",
-                    (status, out) == (1, "") and err.startswith("python3 -m oaut: -: no JSON: ") and err.endswith(f"{says or ''}\n") and err.count("\n") == 1,
+                    (status, out) == (1, "")
+                    and err.startswith("python3 -m oaut: -: no JSON: ")
+                    and err.endswith(f"{says or ''}\n")
+                    and err.count("\n") == 1,
                     err,
                 )
-            self.same("nothing is left", [it for it in os.listdir(room) if it.startswith((".", "new"))], [])
+            self.same(
+                "nothing is left",
+                [it for it in os.listdir(room) if it.startswith((".", "new"))],
+                [],
+            )
 
     def test_pipes_that_end(self):
         with tempfile.TemporaryDirectory() as room:
@@ -170,8 +236,16 @@ class Contents(ClientCases):
             for words in (["dump"], ["dump", "--json"], ["groups"]):
                 line = f"{sys.executable} -m oaut store {' '.join(words)} {room}/it.store"
                 line += " | head -c 100 > /dev/null; echo ${PIPESTATUS[0]}"
-                done = subprocess.run(["bash", "-c", line], capture_output=True, text=True, timeout=300, env=ENVIRONMENT)
-                self.same(f"{words} into a pipe that ends", (done.stdout, done.stderr), ("141\n", ""))
+                done = subprocess.run(
+                    ["bash", "-c", line],
+                    capture_output=True,
+                    text=True,
+                    timeout=300,
+                    env=ENVIRONMENT,
+                )
+                self.same(
+                    f"{words} into a pipe that ends", (done.stdout, done.stderr), ("141\n", "")
+                )
             with open("/dev/full", "w") as full:
                 done = subprocess.run(
                     [sys.executable, "-m", "oaut", "store", "dump", f"{room}/it.store"],
@@ -181,14 +255,22 @@ class Contents(ClientCases):
                     timeout=300,
                     env=ENVIRONMENT,
                 )
-            self.same("a device that is full", (done.returncode, done.stderr), (1, "python3 -m oaut: No space left on device\n"))
+            self.same(
+                "a device that is full",
+                (done.returncode, done.stderr),
+                (1, "python3 -m oaut: No space left on device\n"),
+            )
 
     def test_how_far_it_is(self):
         class Terminal(io.StringIO):
             def isatty(self):
                 return True
 
-        lines = ["\rcopy [######              ]  30%, 30 of 100 MiB\x1b[K", "\rcopy [##########          ]  50%, 50 of 100 MiB\x1b[K", "\r\x1b[K"]
+        lines = [
+            "\rcopy [######              ]  30%, 30 of 100 MiB\x1b[K",
+            "\rcopy [##########          ]  50%, 50 of 100 MiB\x1b[K",
+            "\r\x1b[K",
+        ]
         for name, shown, took, wanted in (
             ("of long work", Terminal(), 1, "".join(lines)),
             ("of what ends at once", Terminal(), 0.001, ""),
@@ -208,16 +290,33 @@ class Contents(ClientCases):
             try:
                 with open(f"{room}/json", "w") as file:
                     dumps.write_dump(path, file)
-                made = {"copy": ["copy", path], "live": ["copy", "--live", path], "restored": ["restore", f"{room}/json"]}
+                made = {
+                    "copy": ["copy", path],
+                    "live": ["copy", "--live", path],
+                    "restored": ["restore", f"{room}/json"],
+                }
                 for name, words in made.items():
                     self.same(
-                        f"{name}: rights as of a new file", (command(*words, f"{room}/{name}")[0], oct(os.stat(f"{room}/{name}").st_mode & 0o777)), (0, "0o640")
+                        f"{name}: rights as of a new file",
+                        (
+                            command(*words, f"{room}/{name}")[0],
+                            oct(os.stat(f"{room}/{name}").st_mode & 0o777),
+                        ),
+                        (0, "0o640"),
                     )
                 os.chmod(path, 0o600)
                 os.umask(0o022)
-                for name, words in {"own copy": ["copy", path], "own live": ["copy", "--live", path], "own salvaged": ["salvage", path]}.items():
+                for name, words in {
+                    "own copy": ["copy", path],
+                    "own live": ["copy", "--live", path],
+                    "own salvaged": ["salvage", path],
+                }.items():
                     command(*words, f"{room}/{name}")
-                    self.same(f"{name}: who may not read the store may not read it", oct(os.stat(f"{room}/{name}").st_mode & 0o777), "0o600")
+                    self.same(
+                        f"{name}: who may not read the store may not read it",
+                        oct(os.stat(f"{room}/{name}").st_mode & 0o777),
+                        "0o600",
+                    )
             finally:
                 os.umask(old)
 
@@ -231,7 +330,11 @@ class Contents(ClientCases):
                 ["copy", "--live", f"{room}/it.store", f"{room}/live"],
                 ["dump", "--json", f"{room}/it.store"],
             ):
-                self.tell(f"the memory of {words[0]} {words[1]}", (took := peak(*words, out=f"{room}/json")) - least < 65_536, f"{took - least} KiB")
+                self.tell(
+                    f"the memory of {words[0]} {words[1]}",
+                    (took := peak(*words, out=f"{room}/json")) - least < 65_536,
+                    f"{took - least} KiB",
+                )
             os.unlink(f"{room}/copy")
             took = peak("restore", "--bank", "125829120", f"{room}/json", f"{room}/restored")
             self.tell("the memory of restore", took - least < 65_536, f"{took - least} KiB")
@@ -249,7 +352,9 @@ LARGE = bytes(stores.add(stores.formatted(TEXT), *([created(it) for it in range(
 
 def lay_large(path, size, bank=125_829_120):
     """A store whose snapshot has objects of long texts, of so many bytes."""
-    cell = stores.place_image((FACE.bytes_le, 2, ())) + stores.value_image(text(b"abcdefgh" * 16_384))
+    cell = stores.place_image((FACE.bytes_le, 2, ())) + stores.value_image(
+        text(b"abcdefgh" * 16_384)
+    )
     count = size // (len(cell) + 24)
     with open(path, "wb") as file:
         file.truncate(stores.length_of(bank))
@@ -269,6 +374,14 @@ def peak(*words, out=os.devnull):
     told += "print(open('/proc/self/status').read(), file=sys.stderr); sys.exit(status)"
     with open(out, "w") as file:
         done = subprocess.run(
-            [sys.executable, "-c", told, "store", *words], stdout=file, stderr=subprocess.PIPE, text=True, timeout=3_000, env=ENVIRONMENT, check=True
+            [sys.executable, "-c", told, "store", *words],
+            stdout=file,
+            stderr=subprocess.PIPE,
+            text=True,
+            timeout=3_000,
+            env=ENVIRONMENT,
+            check=True,
         )
-    return next(int(line.split()[1]) for line in done.stderr.splitlines() if line.startswith("VmHWM:"))
+    return next(
+        int(line.split()[1]) for line in done.stderr.splitlines() if line.startswith("VmHWM:")
+    )

@@ -1,4 +1,5 @@
-"""Sessions of a process over its forks: in the child each use raises SessionInUse, and the parent goes on. OAUT_FORKS is how many rounds there are."""
+"""Sessions of a process over its forks: in the child each use raises SessionInUse, and the parent
+goes on. OAUT_FORKS is how many rounds there are."""
 import asyncio
 import json
 import os
@@ -7,9 +8,9 @@ import subprocess
 import sys
 import time
 
-from clients import ENVIRONMENT, FULL, PROGRAM, ROOT, ClientCases, oaut
-from forked import forked, used
 from oaut import I4, aio, frames
+from tests.client.clients import ENVIRONMENT, FULL, PROGRAM, ROOT, ClientCases, oaut
+from tests.client.forked import forked, used
 
 ROUNDS = int(os.environ.get("OAUT_FORKS", "40"))
 
@@ -29,9 +30,15 @@ def child_of(act):
 class Forks(ClientCases):
     def rounds(self, way, count, seen):
         words = [sys.executable, f"{ROOT}/tests/client/forked.py", way, PROGRAM, FULL, str(count)]
-        done = subprocess.run(words, env=ENVIRONMENT, capture_output=True, text=True, check=False, timeout=800)
+        done = subprocess.run(
+            words, env=ENVIRONMENT, capture_output=True, text=True, check=False, timeout=800
+        )
         self.same(f"{way}: its end", (done.returncode, done.stderr), (0, ""))
-        self.same(f"{way}: no wrong value in {count} rounds", json.loads(done.stdout), {"wrong": [], "seen": seen})
+        self.same(
+            f"{way}: no wrong value in {count} rounds",
+            json.loads(done.stdout),
+            {"wrong": [], "seen": seen},
+        )
 
     def test_os_fork(self):
         self.rounds("os.fork", ROUNDS, ["SessionInUse, closed"])
@@ -52,7 +59,11 @@ class Forks(ClientCases):
             item.Count = 7
             begun = time.monotonic()
             server.close()
-            self.tell("it does not wait for the child", time.monotonic() - begun < 60, time.monotonic() - begun)
+            self.tell(
+                "it does not wait for the child",
+                time.monotonic() - begun < 60,
+                time.monotonic() - begun,
+            )
         finally:
             os.kill(child, 9)
             os.waitpid(child, 0)
@@ -68,11 +79,17 @@ class Forks(ClientCases):
 
     def test_a_session_over_a_socket(self):
         ours, theirs = socket.socketpair()
-        with ours, theirs, subprocess.Popen([PROGRAM, "play", FULL], stdin=theirs, stdout=theirs) as child:
+        with ours, theirs, subprocess.Popen(
+            [PROGRAM, "play", FULL], stdin=theirs, stdout=theirs
+        ) as child:
             theirs.close()
             with oaut.connect(ours, timeout=60) as server:
                 item = server.create("Item")
-                self.same("the child's use", forked(lambda: used(server, item, os.getppid())), "SessionInUse, closed")
+                self.same(
+                    "the child's use",
+                    forked(lambda: used(server, item, os.getppid())),
+                    "SessionInUse, closed",
+                )
                 item.Count = 7
                 self.same("the parent's", item.Count, I4(7))
             ours.close()
@@ -94,7 +111,9 @@ class Forks(ClientCases):
                 shared.close()
                 return said
 
-            self.same("the child's uses", forked(in_child), "['SessionInUse, closed', True, True, True]")
+            self.same(
+                "the child's uses", forked(in_child), "['SessionInUse, closed', True, True, True]"
+            )
             item.Count = 7
             self.same("the parent's", item.Count, I4(7))
             one.close()

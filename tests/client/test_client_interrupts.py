@@ -1,5 +1,6 @@
-"""An interrupt before each opcode of the client's public calls, on this Python and on each other one that is installed: the session goes on, and
-nothing that was put afterwards is lost without an exception."""
+"""An interrupt before each opcode of the client's public calls, on this Python and on each other
+one that is installed: the session goes on, and nothing that was put afterwards is lost without an
+exception."""
 import glob
 import json
 import os
@@ -7,31 +8,65 @@ import random
 import subprocess
 import sys
 
-from clients import ENVIRONMENT, FULL, PROGRAM, ROOT, ClientCases, oaut
-from stepped import CALLS, Stepping, goes_on
+from tests.client.clients import ENVIRONMENT, FULL, PROGRAM, ROOT, ClientCases, oaut
+from tests.client.stepped import CALLS, Stepping, goes_on
 
 STEPPED = f"{ROOT}/tests/client/stepped.py"
-OTHERS = ("put", "batch", "small batches", "atomic", "put of a long text", "stacked", "close", "lock", "update", "frames: put", "frames: batch", "end")
+OTHERS = (
+    "put",
+    "batch",
+    "small batches",
+    "atomic",
+    "put of a long text",
+    "stacked",
+    "close",
+    "lock",
+    "update",
+    "frames: put",
+    "frames: batch",
+    "end",
+)
 
 
 def pythons():
     """The other interpreters of this machine that the client supports, each by its version."""
     found = {}
-    for path in sorted(glob.glob("/usr/bin/python3.[0-9]*") + glob.glob(os.path.expanduser("~/.pyenv/versions/*/bin/python3"))):
+    for path in sorted(
+        glob.glob("/usr/bin/python3.[0-9]*")
+        + glob.glob(os.path.expanduser("~/.pyenv/versions/*/bin/python3"))
+    ):
         if path.endswith("-config"):
             continue
         words = [path, "-c", "import sys; print('%d.%d' % sys.version_info[:2])"]
         said = subprocess.run(words, capture_output=True, text=True, check=False).stdout.strip()
-        if said and tuple(map(int, said.split("."))) >= (3, 9) and tuple(map(int, said.split("."))) != sys.version_info[:2]:
+        if (
+            said
+            and tuple(map(int, said.split("."))) >= (3, 9)
+            and tuple(map(int, said.split("."))) != sys.version_info[:2]
+        ):
             found[said] = path
     return found
 
 
 class Interrupts(ClientCases):
     def stepped(self, name, every=1, python=sys.executable, least=400):
-        words = [python, STEPPED, PROGRAM, FULL, name, str(every), str(random.Random(name).randrange(every))]
-        done = subprocess.run(words, env=ENVIRONMENT, capture_output=True, text=True, check=False, timeout=600)
-        self.same(f"{name} by {os.path.basename(python)}: its end", (done.returncode, done.stderr), (0, ""))
+        words = [
+            python,
+            STEPPED,
+            PROGRAM,
+            FULL,
+            name,
+            str(every),
+            str(random.Random(name).randrange(every)),
+        ]
+        done = subprocess.run(
+            words, env=ENVIRONMENT, capture_output=True, text=True, check=False, timeout=600
+        )
+        self.same(
+            f"{name} by {os.path.basename(python)}: its end",
+            (done.returncode, done.stderr),
+            (0, ""),
+        )
         told = json.loads(done.stdout)
         self.tell(f"{name}: there are steps", told["steps"] > least // every, told["steps"])
         self.same(f"{name}: what went wrong", told["wrong"], [])
@@ -41,7 +76,8 @@ class Interrupts(ClientCases):
             self.stepped(name, 1 if name in ("batch", "atomic") else 5)
 
     def test_each_step_of_a_block_without_with(self):
-        """Nobody knows that such a block has ended: what it kept from being sent is told by its number."""
+        """Nobody knows that such a block has ended: what it kept from being sent is told by its
+        number."""
         self.stepped("stacked", 3)
 
     def test_each_step_of_closing(self):
@@ -94,7 +130,10 @@ class Interrupts(ClientCases):
                     item.Count = 3
             except oaut.NotSent as error:
                 kinds.append((error.count, str(error)))
-            told = "2 requests had no reply: an interrupt came while a batch sent them, so each is executed or not"
+            told = (
+                "2 requests had no reply: an interrupt came while a batch sent them, so each is "
+                "executed or not"
+            )
             self.same("what the block's end raises", kinds, ["swallowed", (2, told)])
             self.same("the session goes on", goes_on(server, item, 4), None)
 
@@ -106,9 +145,14 @@ class Interrupts(ClientCases):
         item.Count = 1
         with self.subTest("the next batch"):
             self.raises(
-                "it says how many", RuntimeError, lambda: server.batch().__enter__(), "this session has a batch already, with 1 requests that were not sent"
+                "it says how many",
+                RuntimeError,
+                lambda: server.batch().__enter__(),
+                "this session has a batch already, with 1 requests that were not sent",
             )
-        told = "1 requests of a batch were not sent: the session was closed before the batch had ended"
+        told = (
+            "1 requests of a batch were not sent: the session was closed before the batch had ended"
+        )
         self.raises("close() says how many", oaut.NotSent, server.close, told, count=1)
         server.close()
 

@@ -1,5 +1,5 @@
-"""Copies of a store that is written meanwhile: by a writer that makes the writes of docs/reference/store.md
-between any two reads of a copy, and by the program under load.
+"""Copies of a store that is written meanwhile: by a writer that makes the writes of
+docs/reference/store.md between any two reads of a copy, and by the program under load.
 
 OAUT_COPIES says how many copies are taken under load (12 where nothing is said), OAUT_SEED from
 which seed.
@@ -18,19 +18,26 @@ import unittest
 import uuid
 from unittest import mock
 
-import test_kills as kills
-from clients import PROGRAM, ClientCases, oaut
-from running import fill
 from oaut import files
 from oaut import store as stores
-from test_client_backup import TEXT, created, put, text
+from tests.client.clients import PROGRAM, ClientCases, oaut
+from tests.client.test_client_backup import TEXT, created, put, text
+from tests.program import test_kills as kills
+from tests.support.running import fill
 
 COPIES = int(os.environ.get("OAUT_COPIES") or 12)
 SEED = int(os.environ.get("OAUT_SEED") or int.from_bytes(os.urandom(4), "little"))
 long = lambda number: (stores.I4, struct.pack("<i", number))
 
 
-STORE = bytes(stores.add(stores.formatted(TEXT), b"".join(map(created, range(1, 6))), put(1, 1, long(7)), put(2, 1, text(b"a" * 60))))
+STORE = bytes(
+    stores.add(
+        stores.formatted(TEXT),
+        b"".join(map(created, range(1, 6))),
+        put(1, 1, long(7)),
+        put(2, 1, text(b"a" * 60)),
+    )
+)
 
 
 def read(file):
@@ -46,7 +53,11 @@ class Writer:
     def __init__(self, path, draw, steps):
         self.file, self.draw, self.path = os.open(path, os.O_RDWR), draw, path
         found = read(self.file)
-        self.held, self.ahead, self.left = ([(found.library, found.next, found.objects)], self.writes(found), steps)
+        self.held, self.ahead, self.left = (
+            [(found.library, found.next, found.objects)],
+            self.writes(found),
+            steps,
+        )
 
     def step(self, count=1):
         """Makes so many writes; a store is another one once a gate or a selector was written."""
@@ -65,7 +76,9 @@ class Writer:
         while True:
             number += 1
             if self.draw.random() < 0.7:
-                what = self.draw.choice([long(number), text(b"%d " % number + b"x" * self.draw.randrange(90))])
+                what = self.draw.choice(
+                    [long(number), text(b"%d " % number + b"x" * self.draw.randrange(90))]
+                )
                 events = put(self.draw.randrange(1, 6), 1, what)
                 table = stores.table(stores.Bytes(image))
                 stores.apply(stores.Bytes(events), *table)
@@ -81,7 +94,10 @@ class Writer:
                 place, body = stores.body_of(2, chosen, stores.BANK), library + image + b"\0"
                 for at in range(0, len(body), 300):
                     yield place + at, body[at : at + 300], None
-                yield stores.SELECTOR, bytes([chosen]), (library, *stores.table(stores.Bytes(image)))
+                yield stores.SELECTOR, bytes([chosen]), (
+                    library,
+                    *stores.table(stores.Bytes(image)),
+                )
                 gate = place + len(body) - 1
 
 
@@ -111,9 +127,9 @@ class Interleaved(ClientCases):
             writer.step(4)
             begun = len(writer.held) - 1
             shim = Between(lambda count: before(writer, count))
-            with mock.patch.object(files, "os", shim), mock.patch.object(files, "PIECE", 128), mock.patch.object(files, "WINDOW", 64), mock.patch.object(
-                files.time, "sleep"
-            ):
+            with mock.patch.object(files, "os", shim), mock.patch.object(
+                files, "PIECE", 128
+            ), mock.patch.object(files, "WINDOW", 64), mock.patch.object(files.time, "sleep"):
                 try:
                     with files.opened(path, live=True) as (file, bank):
                         found = read(file)
@@ -129,14 +145,25 @@ class Interleaved(ClientCases):
         reads = self.copied("nothing is written", lambda *_: None)
         for place in range(reads):
             for count in (1, 2, 12):
-                self.copied(f"{count} writes before read {place}", lambda writer, at: writer.step(count if at == place else 0), seed=place)
+                self.copied(
+                    f"{count} writes before read {place}",
+                    lambda writer, at: writer.step(count if at == place else 0),
+                    seed=place,
+                )
 
     def test_writes_before_many_reads(self):
         for seed in range(80):
             draw = random.Random(f"{SEED} {seed}")
             some = draw.choice([0.02, 0.1, 0.5])
-            before = lambda writer, _: writer.step(draw.choice([1, 1, 2, 5, 20, 60]) if draw.random() < some else 0)
-            self.copied(f"writes at random, seed {SEED} {seed}", before, steps=draw.choice([20, 200, 600]), seed=seed)
+            before = lambda writer, _: writer.step(
+                draw.choice([1, 1, 2, 5, 20, 60]) if draw.random() < some else 0
+            )
+            self.copied(
+                f"writes at random, seed {SEED} {seed}",
+                before,
+                steps=draw.choice([20, 200, 600]),
+                seed=seed,
+            )
 
 
 class Requests:
@@ -166,7 +193,11 @@ class Load:
 
     def __init__(self, room, group, asked, libraries):
         self.process = subprocess.Popen(
-            [PROGRAM, "serve", "it.store", "lib.idl", "--group", str(group)], cwd=room, stdin=subprocess.PIPE, stdout=subprocess.PIPE, bufsize=0
+            [PROGRAM, "serve", "it.store", "lib.idl", "--group", str(group)],
+            cwd=room,
+            stdin=subprocess.PIPE,
+            stdout=subprocess.PIPE,
+            bufsize=0,
         )
         self.libraries, self.asked, self.before = libraries, asked, len(asked)
         self.heard, self.wrong, self.over = 0, None, False
@@ -186,7 +217,12 @@ class Load:
                     number += 1
                     some.append(None if draw.random() < 0.02 else kills.Put(number, True))
                 self.asked.rest += [it and (it.object, it.dispid, it.number) for it in some]
-                bodies = (it.body if it else struct.pack("<I", 0) + oaut.ask_replace(draw.choice(self.libraries)) for it in some)
+                bodies = (
+                    it.body
+                    if it
+                    else struct.pack("<I", 0) + oaut.ask_replace(draw.choice(self.libraries))
+                    for it in some
+                )
                 self.process.stdin.write(b"".join(map(kills.record, bodies)))
         except (BrokenPipeError, ValueError):
             pass
@@ -218,7 +254,9 @@ class Load:
 @unittest.skipUnless(os.path.exists(PROGRAM), "the program is not there")
 class UnderLoad(ClientCases):
     def oaut(self, *words, **how):
-        return subprocess.run([PROGRAM, *words], cwd=self.room, check=True, stdout=subprocess.PIPE, **how).stdout
+        return subprocess.run(
+            [PROGRAM, *words], cwd=self.room, check=True, stdout=subprocess.PIPE, **how
+        ).stdout
 
     def setUp(self):
         room = tempfile.TemporaryDirectory()
@@ -228,7 +266,10 @@ class UnderLoad(ClientCases):
             file.write(kills.LIBRARY)
         self.first = self.oaut("check", "lib.idl")
         self.oaut("format", "it.store", "lib.idl")
-        made = (struct.pack("<I", it) + oaut.ask_create(uuid.UUID(bytes_le=kills.CLASS)) for it in range(kills.OBJECTS))
+        made = (
+            struct.pack("<I", it) + oaut.ask_create(uuid.UUID(bytes_le=kills.CLASS))
+            for it in range(kills.OBJECTS)
+        )
         self.oaut("serve", "it.store", "lib.idl", input=b"".join(map(kills.record, made)))
 
     def judged(self, name, path, asked, least):
@@ -236,7 +277,11 @@ class UnderLoad(ClientCases):
         of them among these; how many they are."""
         with open(path, "rb") as file:
             found = read(file.fileno())
-        now = {(number, where[1]): value for number, (_, cells) in found.objects.items() for where, value in cells.items()}
+        now = {
+            (number, where[1]): value
+            for number, (_, cells) in found.objects.items()
+            for where, value in cells.items()
+        }
         forgotten, rest = asked.forgotten, asked.rest[:]
         # (a put is its number: what it puts is made anew)
         is_there = lambda it: now.get(it[:2]) == kills.Put(it[2], True).value
@@ -246,9 +291,16 @@ class UnderLoad(ClientCases):
         wanted = {where: kills.Put(number, True).value for where, number in last.items()}
         behind = next((it for it in range(there, len(rest)) if rest[it]), len(rest)) + forgotten
         there += forgotten
-        self.tell(f"{name}: a first part of what was asked", now == wanted and found.library in self.libraries, f"{there} of {forgotten + len(rest)}")
+        self.tell(
+            f"{name}: a first part of what was asked",
+            now == wanted and found.library in self.libraries,
+            f"{there} of {forgotten + len(rest)}",
+        )
         self.tell(f"{name}: all that was acknowledged", behind >= least, f"{there} of {least}")
-        self.tell(f"{name}: the program opens it", self.oaut("dump", path).decode() == "".join(stores.lines(found)))
+        self.tell(
+            f"{name}: the program opens it",
+            self.oaut("dump", path).decode() == "".join(stores.lines(found)),
+        )
         return there, found.library
 
     def test_copies_under_load(self):
@@ -283,11 +335,16 @@ class UnderLoad(ClientCases):
             if dies:
                 server.kill()
                 sent += len(asked) - server.before
-                there, library = self.judged(f"behind kill {turn}, seed {SEED}", store, asked, server.acknowledged())
+                there, library = self.judged(
+                    f"behind kill {turn}, seed {SEED}", store, asked, server.acknowledged()
+                )
                 asked.cut(there)
                 server, killed = None, killed + 1
         if server:
             self.same("each request was answered by S_OK", server.wrong, None)
             sent += len(asked) - server.before
             server.kill()
-        print(f"{COPIES} copies under load, {sent} requests, {killed} kills, " f"{checkpoints} in another bank than the one before")
+        print(
+            f"{COPIES} copies under load, {sent} requests, {killed} kills, "
+            f"{checkpoints} in another bank than the one before"
+        )

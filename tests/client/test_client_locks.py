@@ -1,10 +1,11 @@
-"""The lock of an array as a block: others wait, it is given back on any exit, and a put on a condition under it."""
+"""The lock of an array as a block: others wait, it is given back on any exit, and a put on a
+condition under it."""
 import asyncio
 import signal
 import threading
 
-from clients import FULL, PROGRAM, ClientCases, oaut, play
 from oaut import I4, aio, frames
+from tests.client.clients import FULL, PROGRAM, ClientCases, oaut, play
 
 
 def locks(item):
@@ -39,11 +40,19 @@ class Locks(ClientCases):
             item.Grid = [1, 2]
             item.Grid.lock()
             self.raises(
-                "it has a timeout", TimeoutError, lambda: item.Grid.locked(0.05).__enter__(), f"<array Grid of {item!r}> is locked by others for 0.05 seconds"
+                "it has a timeout",
+                TimeoutError,
+                lambda: item.Grid.locked(0.05).__enter__(),
+                f"<array Grid of {item!r}> is locked by others for 0.05 seconds",
             )
             self.same("the other's lock stays alone", locks(item), 1)
             with server.batch():
-                self.raises("in a batch", RuntimeError, lambda: item.Grid.locked().__enter__(), "a lock is waited for outside a batch")
+                self.raises(
+                    "in a batch",
+                    RuntimeError,
+                    lambda: item.Grid.locked().__enter__(),
+                    "a lock is waited for outside a batch",
+                )
             item.Grid.unlock()
             self.same("none is left", locks(item), 0)
 
@@ -68,12 +77,19 @@ class Locks(ClientCases):
                     it.start()
                 for it in threads:
                     it.join()
-                self.same("each was put", (added, item.Count, locks(item)), ([True] * 80, I4(80), 0))
+                self.same(
+                    "each was put", (added, item.Count, locks(item)), ([True] * 80, I4(80), 0)
+                )
                 with item.Grid.locked() as lock:
-                    self.same("another value", (lock.put_if_equal("Count", 7, 8), item.Count), (False, I4(80)))
+                    self.same(
+                        "another value",
+                        (lock.put_if_equal("Count", 7, 8), item.Count),
+                        (False, I4(80)),
+                    )
 
     def test_a_session_that_another_thread_uses(self):
-        """A lock that cannot be given back now is not lost without a word, and is given back later."""
+        """A lock that cannot be given back now is not lost without a word, and is given back
+        later."""
         with oaut.play(FULL, program=PROGRAM) as server:
             item = server.create("Item")
             item.Grid = [1]
@@ -100,7 +116,9 @@ class Locks(ClientCases):
                     with shared.session() as own:
                         mine = own.object(item.number, "Item")
                         for _ in range(10):
-                            while not mine.compare_and_put("Count", seen := int(mine.Count), seen + 1, lock=mine.Grid):
+                            while not mine.compare_and_put(
+                                "Count", seen := int(mine.Count), seen + 1, lock=mine.Grid
+                            ):
                                 misses.append(seen)
                             puts.append(seen)
 
@@ -109,12 +127,31 @@ class Locks(ClientCases):
                     it.start()
                 for it in threads:
                     it.join()
-                self.same("each value was put once", (sorted(puts), item.Count, locks(item)), (list(range(160)), I4(160), 0))
-                self.same("another value", (item.compare_and_put("Count", 7, 8, lock=item.Grid), item.Count), (False, I4(160)))
+                self.same(
+                    "each value was put once",
+                    (sorted(puts), item.Count, locks(item)),
+                    (list(range(160)), I4(160), 0),
+                )
+                self.same(
+                    "another value",
+                    (item.compare_and_put("Count", 7, 8, lock=item.Grid), item.Count),
+                    (False, I4(160)),
+                )
                 item.Cell[5, "k"] = "a"
-                self.same("with arguments", (item.compare_and_put("Cell", "a", "b", 5, "k", lock=item.Grid), item.Cell[5, "k"]), (True, "b"))
+                self.same(
+                    "with arguments",
+                    (
+                        item.compare_and_put("Cell", "a", "b", 5, "k", lock=item.Grid),
+                        item.Cell[5, "k"],
+                    ),
+                    (True, "b"),
+                )
                 item.Grid.lock()
-                self.raises("others have the lock", TimeoutError, lambda: item.compare_and_put("Count", 160, 5, lock=item.Grid, timeout=0.05))
+                self.raises(
+                    "others have the lock",
+                    TimeoutError,
+                    lambda: item.compare_and_put("Count", 160, 5, lock=item.Grid, timeout=0.05),
+                )
                 item.Grid.unlock()
                 self.same("nothing was put", (item.Count, locks(item)), (I4(160), 0))
 
@@ -122,19 +159,52 @@ class Locks(ClientCases):
         with play(FULL) as server, play(FULL) as another:
             item, other = server.create("Item"), another.create("Item")
             item.Grid = other.Grid = [1]
-            self.same("its result", [item.update("Count", lambda count: count + 1, lock=item.Grid) for _ in range(3)], [1, 2, 3])
+            self.same(
+                "its result",
+                [item.update("Count", lambda count: count + 1, lock=item.Grid) for _ in range(3)],
+                [1, 2, 3],
+            )
             item.Cell[5, "k"] = "a"
-            self.same("with arguments", (item.update("Cell", lambda text: text + "b", 5, "k", lock=item.Grid), item.Cell[5, "k"]), ("ab", "ab"))
-            for told, step, kind in (("a refused put", lambda count: "x", oaut.TypeMismatch), ("what cannot be put", lambda count: object(), TypeError)):
+            self.same(
+                "with arguments",
+                (
+                    item.update("Cell", lambda text: text + "b", 5, "k", lock=item.Grid),
+                    item.Cell[5, "k"],
+                ),
+                ("ab", "ab"),
+            )
+            for told, step, kind in (
+                ("a refused put", lambda count: "x", oaut.TypeMismatch),
+                ("what cannot be put", lambda count: object(), TypeError),
+            ):
                 self.raises(told, kind, lambda: item.update("Count", step, lock=item.Grid))
             with self.assertRaises(ZeroDivisionError):
                 item.update("Count", lambda count: 1 // 0, lock=item.Grid)
-            self.raises("a refused get", oaut.TypeMismatch, lambda: item.update("Cell", str, "a", "k", lock=item.Grid))
-            self.raises("no such member", AttributeError, lambda: item.update("Cuont", str, lock=item.Grid))
-            self.raises("a lock of another session", RuntimeError, lambda: item.update("Count", str, lock=other.Grid))
-            self.raises("an array that was never put", oaut.Unexpected, lambda: item.update("Count", str, lock=server.create("Item").Grid))
+            self.raises(
+                "a refused get",
+                oaut.TypeMismatch,
+                lambda: item.update("Cell", str, "a", "k", lock=item.Grid),
+            )
+            self.raises(
+                "no such member", AttributeError, lambda: item.update("Cuont", str, lock=item.Grid)
+            )
+            self.raises(
+                "a lock of another session",
+                RuntimeError,
+                lambda: item.update("Count", str, lock=other.Grid),
+            )
+            self.raises(
+                "an array that was never put",
+                oaut.Unexpected,
+                lambda: item.update("Count", str, lock=server.create("Item").Grid),
+            )
             with server.batch():
-                self.raises("in a batch", RuntimeError, lambda: item.update("Count", str, lock=item.Grid), "a lock is waited for outside a batch")
+                self.raises(
+                    "in a batch",
+                    RuntimeError,
+                    lambda: item.update("Count", str, lock=item.Grid),
+                    "a lock is waited for outside a batch",
+                )
             self.same("nothing was put, and no lock is left", (item.Count, locks(item)), (I4(3), 0))
 
     def test_the_steps_of_an_update(self):
@@ -143,27 +213,50 @@ class Locks(ClientCases):
             item = server.create("Item")
             item.Grid, item.Count = [1], 5
             for told, act, opcodes in (
-                ("an update", lambda: item.update("Count", lambda count: 7, lock=item.Grid), [">8", ">4", "<", "<", ">4", ">9", "<", "<"]),
-                ("a compare-and-put", lambda: item.compare_and_put("Count", 7, 8, lock=item.Grid), [">8", ">4", "<", "<", ">4", ">9", "<", "<"]),
-                ("one that does not put", lambda: item.compare_and_put("Count", 7, 8, lock=item.Grid), [">8", ">4", "<", "<", ">9", "<"]),
+                (
+                    "an update",
+                    lambda: item.update("Count", lambda count: 7, lock=item.Grid),
+                    [">8", ">4", "<", "<", ">4", ">9", "<", "<"],
+                ),
+                (
+                    "a compare-and-put",
+                    lambda: item.compare_and_put("Count", 7, 8, lock=item.Grid),
+                    [">8", ">4", "<", "<", ">4", ">9", "<", "<"],
+                ),
+                (
+                    "one that does not put",
+                    lambda: item.compare_and_put("Count", 7, 8, lock=item.Grid),
+                    [">8", ">4", "<", "<", ">9", "<"],
+                ),
             ):
                 found = []
-                server.trace = lambda sign, body: found.append(sign + str(body[4]) if sign == ">" else sign)
+                server.trace = lambda sign, body: found.append(
+                    sign + str(body[4]) if sign == ">" else sign
+                )
                 act()
                 server.trace = None
                 self.same(told, found, opcodes)
 
     def updated(self, act):
-        """What `act` returns for a session of asyncio with an object whose Grid was put, and how often its Count is put meanwhile."""
+        """What `act` returns for a session of asyncio with an object whose Grid was put, and how
+        often its Count is put meanwhile."""
 
         async def session():
             async with aio.play(FULL, program=PROGRAM) as server:
                 item, puts = await server.create("Item"), []
                 await item.put("Grid", [1])
-                server.trace = lambda sign, body: puts.append(body) if sign == ">" and body[4] == 4 and body[52] == 4 and body[12] == 1 else None
+                server.trace = (
+                    lambda sign, body: puts.append(body)
+                    if sign == ">" and body[4] == 4 and body[52] == 4 and body[12] == 1
+                    else None
+                )
                 found = await act(server, item)
                 server.trace = None
-                self.same("no lock is left", (await item.array("Grid").lock(), await item.array("Grid").unlock()), (1, 0))
+                self.same(
+                    "no lock is left",
+                    (await item.array("Grid").lock(), await item.array("Grid").unlock()),
+                    (1, 0),
+                )
                 self.same("nothing waits", server._updates, {})
                 return found, len(puts)
 
@@ -176,7 +269,9 @@ class Locks(ClientCases):
             async def one():
                 return await item.update("Count", lambda count: count + 1, lock=item.array("Grid"))
 
-            return sorted(await asyncio.gather(*(one() for _ in range(3_000)))), await item.get("Count")
+            return sorted(await asyncio.gather(*(one() for _ in range(3_000)))), await item.get(
+                "Count"
+            )
 
         found, puts = self.updated(act)
         self.same("each value once", found, (list(range(1, 3_001)), I4(3_000)))
@@ -187,7 +282,9 @@ class Locks(ClientCases):
 
         async def act(server, item):
             keys = [(5, "k"), (oaut.I2(5), "k"), (5, "k", 1), (6, "k")]
-            add = lambda at: item.update("Cell", lambda text: (text or "") + "a", *keys[at % 4], lock=item.array("Grid"))
+            add = lambda at: item.update(
+                "Cell", lambda text: (text or "") + "a", *keys[at % 4], lock=item.array("Grid")
+            )
             await asyncio.gather(*(add(at) for at in range(40)))
             return [await item.get("Cell", *key) for key in ((5, "k"), (6, "k"))]
 
@@ -208,23 +305,51 @@ class Locks(ClientCases):
                 lambda count: "7",
                 lambda count: count + 1,
             )
-            found = await asyncio.gather(*(item.update("Count", it, lock=item.array("Grid")) for it in steps), return_exceptions=True)
+            found = await asyncio.gather(
+                *(item.update("Count", it, lock=item.array("Grid")) for it in steps),
+                return_exceptions=True,
+            )
             never = (await server.create("Item")).array("Grid")
-            refused = await asyncio.gather(*(item.update("Count", it, lock=never) for it in steps[:2]), return_exceptions=True)
-            outside = await asyncio.gather(item.update("Cell", str, "a", "k", lock=item.array("Grid")), return_exceptions=True)
-            return [it if isinstance(it, int) else type(it).__name__ for it in (*found, *refused, *outside)], await item.get("Count")
+            refused = await asyncio.gather(
+                *(item.update("Count", it, lock=never) for it in steps[:2]), return_exceptions=True
+            )
+            outside = await asyncio.gather(
+                item.update("Cell", str, "a", "k", lock=item.array("Grid")), return_exceptions=True
+            )
+            return [
+                it if isinstance(it, int) else type(it).__name__
+                for it in (*found, *refused, *outside)
+            ], await item.get("Count")
 
-        due = [1, "ZeroDivisionError", "Overflow", 2, "WrongType", 12, "RuntimeError", "TypeMismatch", 13]
-        self.same("each", self.updated(act)[0], ([*due, "Unexpected", "Unexpected", "TypeMismatch"], I4(13)))
+        due = [
+            1,
+            "ZeroDivisionError",
+            "Overflow",
+            2,
+            "WrongType",
+            12,
+            "RuntimeError",
+            "TypeMismatch",
+            13,
+        ]
+        self.same(
+            "each",
+            self.updated(act)[0],
+            ([*due, "Unexpected", "Unexpected", "TypeMismatch"], I4(13)),
+        )
 
     def test_updates_that_wait(self):
         """For others: until their time is up, until they are cancelled, until the lock is free."""
 
         async def act(server, item):
             grid = item.array("Grid")
-            add = lambda **how: asyncio.ensure_future(item.update("Count", lambda count: count + 1, lock=grid, **how))
+            add = lambda **how: asyncio.ensure_future(
+                item.update("Count", lambda count: count + 1, lock=grid, **how)
+            )
             await grid.lock()
-            late = await asyncio.gather(add(timeout=0.05), add(timeout=0.05), return_exceptions=True)
+            late = await asyncio.gather(
+                add(timeout=0.05), add(timeout=0.05), return_exceptions=True
+            )
             gone = [add() for _ in range(3)]
             await asyncio.sleep(0.02)
             for it in gone:
@@ -249,7 +374,12 @@ class Locks(ClientCases):
                 item = await server.create("Item")
                 await item.put("Grid", [1])
                 await item.array("Grid").lock()
-                waiting = [asyncio.ensure_future(item.update("Count", lambda count: count + 1, lock=item.array("Grid"))) for _ in range(3)]
+                waiting = [
+                    asyncio.ensure_future(
+                        item.update("Count", lambda count: count + 1, lock=item.array("Grid"))
+                    )
+                    for _ in range(3)
+                ]
                 await asyncio.sleep(0.02)
             return [type(it) for it in await asyncio.gather(*waiting, return_exceptions=True)]
 
@@ -312,8 +442,14 @@ class Locks(ClientCases):
                 item, never = await server.create("Item"), await server.create("Item")
                 await item.put("Grid", [1])
                 for times in (1, 2, 3):
-                    self.same(f"cancelled {times} times", await cancelled(server, item, times), True)
+                    self.same(
+                        f"cancelled {times} times", await cancelled(server, item, times), True
+                    )
                     self.same("no lock is left", await locks_soon(item), 1)
-                self.same("one that is refused is cancelled all the same", await cancelled(server, never, 1), True)
+                self.same(
+                    "one that is refused is cancelled all the same",
+                    await cancelled(server, never, 1),
+                    True,
+                )
 
         asyncio.run(act())

@@ -1,9 +1,10 @@
-"""`oaut.Library.from_text`: the library of a text without the program, by the tables that the program's own grammar and checks are tried by."""
+"""`oaut.Library.from_text`: the library of a text without the program, by the tables that the
+program's own grammar and checks are tried by."""
 import glob
 
-from clients import FULL, LIBRARY, ROOT, ClientCases, oaut
-from running import rows_of
-from test_syntax import BOUNDS, FRAMES, LATE, LONG_NAME
+from tests.client.clients import FULL, LIBRARY, ROOT, ClientCases, oaut
+from tests.program.test_syntax import BOUNDS, FRAMES, LATE, LONG_NAME
+from tests.support.running import rows_of
 
 GUID = "11223344-5566-7788-99AA-BBCCDDEEFF0"
 
@@ -29,7 +30,11 @@ def described():
                 found[-1][1][place] += bytes.fromhex(row)
         elif row:
             index, _, rest = row.partition(" ")
-            place = int(index) if all(it in "0123456789abcdef " for it in rest) and len(rest.split(" ")[0]) == 8 else None
+            place = (
+                int(index)
+                if all(it in "0123456789abcdef " for it in rest) and len(rest.split(" ")[0]) == 8
+                else None
+            )
             if place is not None and len(rest) > 8:
                 found[-1][1][place] = bytes.fromhex(rest)
     return found
@@ -43,17 +48,29 @@ class Texts(ClientCases):
                 front = row[2:]
                 continue
             before, after = (front + row).split("^")
-            self.same(f"syntax of {(front + row)[-200:]}", said_of(before + after), f"syntax at byte {len(before.encode())}")
+            self.same(
+                f"syntax of {(front + row)[-200:]}",
+                said_of(before + after),
+                f"syntax at byte {len(before.encode())}",
+            )
 
     def test_parts_that_are_one_too_many(self):
         for front, row in LATE:
             before, after = (front + row).split("^")
-            self.same(f"syntax of {row}", said_of(before + after), f"syntax at byte {len(before.encode())}")
+            self.same(
+                f"syntax of {row}",
+                said_of(before + after),
+                f"syntax at byte {len(before.encode())}",
+            )
 
     def test_limits(self):
         for front, part, count, back, limit in BOUNDS:
             said = [said_of(front + part * it + back) for it in (count, count + 1)]
-            self.tell(f"the limit {limit} behind {front[-60:]}", (said[0] != f"limit {limit}" or LONG_NAME in back) and said[1] == f"limit {limit}", said)
+            self.tell(
+                f"the limit {limit} behind {front[-60:]}",
+                (said[0] != f"limit {limit}" or LONG_NAME in back) and said[1] == f"limit {limit}",
+                said,
+            )
 
     def test_a_text_above_the_limit(self):
         self.same("its length", said_of(" " * 262_145), "limit text")
@@ -61,17 +78,32 @@ class Texts(ClientCases):
     def test_what_is_read(self):
         for row in rows_of("read.txt"):
             wanted, text = row.split(" | ", 1)
-            self.same(f"a text that is read, {text}", said_of(f"[uuid(#1)] library Library {text}".replace("#", GUID)), wanted)
+            self.same(
+                f"a text that is read, {text}",
+                said_of(f"[uuid(#1)] library Library {text}".replace("#", GUID)),
+                wanted,
+            )
 
     def test_checks(self):
         for row in rows_of("libraries.txt"):
             wanted, items = row.split(" | ", 1)
-            self.same(f"a library with {items[:200]}", said_of(f"[uuid(#1)] library L {{{items}}}".replace("#", GUID)), wanted)
+            self.same(
+                f"a library with {items[:200]}",
+                said_of(f"[uuid(#1)] library L {{{items}}}".replace("#", GUID)),
+                wanted,
+            )
 
     def test_how_long_a_default_may_be(self):
         for count, wanted in ((131_072, "accepted"), (131_073, "bad default P")):
-            items = f"[uuid(#2)] dispinterface A {{ methods: [id(1)] void X([defaultvalue(\"{'a' * count}\")] BSTR P); }}"
-            self.same(f"a default of {count}", said_of(f"[uuid(#1)] library L {{{items}}}".replace("#", GUID)), wanted)
+            items = (
+                f"[uuid(#2)] dispinterface A {{ methods: [id(1)] void "
+                f"X([defaultvalue(\"{'a' * count}\")] BSTR P); }}"
+            )
+            self.same(
+                f"a default of {count}",
+                said_of(f"[uuid(#1)] library L {{{items}}}".replace("#", GUID)),
+                wanted,
+            )
 
     def test_a_part_is_read_as_its_canonical_text_is(self):
         for row in rows_of("printed.txt"):
@@ -90,12 +122,18 @@ class Texts(ClientCases):
             found = [*library.interfaces, *library.coclasses]
             for index, body in bodies.items():
                 count += 1
-                self.same(f"description {index} of {text[-100:]}", found[index], oaut.library.read_description(body))
+                self.same(
+                    f"description {index} of {text[-100:]}",
+                    found[index],
+                    oaut.library.read_description(body),
+                )
         self.tell("there are some", count >= 4, count)
 
     def test_what_a_server_says(self):
         with open(FULL, encoding="utf-8") as file:
-            self.same("the library of its text", oaut.Library.from_text(file.read()) == LIBRARY, True)
+            self.same(
+                "the library of its text", oaut.Library.from_text(file.read()) == LIBRARY, True
+            )
 
     def test_a_coclass_by_its_guid(self):
         with open(FULL, encoding="utf-8") as file:
@@ -108,10 +146,17 @@ class Texts(ClientCases):
         for path in glob.glob(f"{ROOT}/examples/*.idl"):
             with open(path, "rb") as file:
                 library = oaut.Library.from_text(file.read())
-            self.same(f"{path}, read again", oaut.Library.from_text(library.to_text()) == library, True)
+            self.same(
+                f"{path}, read again", oaut.Library.from_text(library.to_text()) == library, True
+            )
 
     def test_where_a_fault_stands(self):
         error = self.raises(
-            "a text", oaut.parsing.NoLibraryText, lambda: oaut.Library.from_text("library X {\n}"), line=1, column=1, fault="oaut: syntax at byte 0"
+            "a text",
+            oaut.parsing.NoLibraryText,
+            lambda: oaut.Library.from_text("library X {\n}"),
+            line=1,
+            column=1,
+            fault="oaut: syntax at byte 0",
         )
         self.same("its text", str(error), "no library at 1:1: syntax at byte 0\nlibrary X {\n^")

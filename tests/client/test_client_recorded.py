@@ -1,14 +1,15 @@
-"""Recordings: a session's requests and replies as a text file, and a session that is replayed from it."""
+"""Recordings: a session's requests and replies as a text file, and a session that is replayed from
+it."""
 import io
 import os
 import tempfile
 import time
 import unittest
 
-from clients import FULL, LIBRARY, PROGRAM, ClientCases, answer, oaut, scripted
 from oaut import recorded
 from oaut.protocol import END
-from tries import least
+from tests.client.clients import FULL, LIBRARY, PROGRAM, ClientCases, answer, oaut, scripted
+from tests.support.tries import least
 
 CREATED = answer("01000000 00000000")
 # what the recording of one create has: the request of docs/reference/records.md, and its reply
@@ -78,7 +79,11 @@ class Recordings(Room):
 
     def test_its_library(self):
         text = self.recorded_by(lambda it: None)
-        self.same("it is a library's text", oaut.Library.from_text(text.partition("library\n")[2]) == LIBRARY, True)
+        self.same(
+            "it is a library's text",
+            oaut.Library.from_text(text.partition("library\n")[2]) == LIBRARY,
+            True,
+        )
 
     def test_two_recordings_are_the_same(self):
         """Though their sessions have other tags."""
@@ -104,7 +109,9 @@ class Recordings(Room):
     def test_another_file_is_not_replaced(self):
         self.written("mine\n")
         server = scripted(CREATED)
-        self.raises("it is refused", oaut.NoRecording, lambda: oaut.record(server, self.path).__enter__())
+        self.raises(
+            "it is refused", oaut.NoRecording, lambda: oaut.record(server, self.path).__enter__()
+        )
         with open(self.path) as file:
             self.same("its text", file.read(), "mine\n")
 
@@ -156,7 +163,12 @@ class Replays(Room):
                 finally:
                     recording.__exit__(None)
         server = oaut.replay(self.path)
-        self.raises("the replay ends there too", oaut.SessionEnded, lambda: setattr(server.object(1, "Item"), "Count", 7), may_stand=True)
+        self.raises(
+            "the replay ends there too",
+            oaut.SessionEnded,
+            lambda: setattr(server.object(1, "Item"), "Count", 7),
+            may_stand=True,
+        )
 
 
 class Differences(Room):
@@ -168,8 +180,17 @@ class Differences(Room):
         server = oaut.replay(self.path)
         item = server.create("Item")
         error = self.raises("a put", oaut.ReplayDiffers, lambda: setattr(item, "Count", 7))
-        self.tell("what was sent", "request 2 is INVOKE object 1 dispid 1 (Count) PROPERTYPUT, new value = I4(7)" in str(error), error)
-        self.tell("what was recorded, and where", str(error).startswith(f"{self.path}:") and "was RELEASE object 1" in str(error), error)
+        self.tell(
+            "what was sent",
+            "request 2 is INVOKE object 1 dispid 1 (Count) PROPERTYPUT, new value = I4(7)"
+            in str(error),
+            error,
+        )
+        self.tell(
+            "what was recorded, and where",
+            str(error).startswith(f"{self.path}:") and "was RELEASE object 1" in str(error),
+            error,
+        )
 
     def test_it_stays(self):
         server = oaut.replay(self.path)
@@ -181,7 +202,9 @@ class Differences(Room):
         server = oaut.replay(self.path)
         server.create("Item").release()
         error = self.raises("a create", oaut.ReplayDiffers, lambda: server.create("Item"))
-        self.tell("how many there are", "it has 2 requests, and request 3 is CREATE" in str(error), error)
+        self.tell(
+            "how many there are", "it has 2 requests, and request 3 is CREATE" in str(error), error
+        )
 
     def test_a_request_that_is_not_sent(self):
         server = oaut.replay(self.path)
@@ -199,7 +222,12 @@ class Differences(Room):
                 raise KeyError
 
     def test_it_is_an_assertion(self):
-        self.same("both kinds", issubclass(oaut.ReplayDiffers, AssertionError) and issubclass(oaut.ReplayDiffers, oaut.Error), True)
+        self.same(
+            "both kinds",
+            issubclass(oaut.ReplayDiffers, AssertionError)
+            and issubclass(oaut.ReplayDiffers, oaut.Error),
+            True,
+        )
 
 
 class NoRecordings(Room):
@@ -210,7 +238,12 @@ class NoRecordings(Room):
 
     def test_another_text(self):
         self.written("hello\n")
-        self.raises("it", oaut.NoRecording, lambda: oaut.replay(self.path), f"{self.path}: no recording: its first line is not 'oaut recording 1'")
+        self.raises(
+            "it",
+            oaut.NoRecording,
+            lambda: oaut.replay(self.path),
+            f"{self.path}: no recording: its first line is not 'oaut recording 1'",
+        )
 
     def test_a_reply_without_a_request(self):
         self.refused("it", "oaut recording 1\nlibrary\n< S_OK\n    00\n", 3)
@@ -228,7 +261,11 @@ class NoRecordings(Room):
 
     def test_comments_and_blank_lines(self):
         with open(self.path, "w") as file, open(FULL, encoding="utf-8") as library:
-            file.write("oaut recording 1\n# by hand\nlibrary\n" + "".join(f" {it}" for it in library if "//" not in it) + "\n# a list\n> LIST\n 0b00 0000\n")
+            file.write(
+                "oaut recording 1\n# by hand\nlibrary\n"
+                + "".join(f" {it}" for it in library if "//" not in it)
+                + "\n# a list\n> LIST\n 0b00 0000\n"
+            )
             file.write("< none\n 00000000 ffffffff 00000000 00000000 00000000\n")
         with oaut.replay(self.path) as server:
             self.same("its list", server.objects(), [])
@@ -236,7 +273,8 @@ class NoRecordings(Room):
 
 class Streams(Room):
     def test_many_replies_at_once(self):
-        """What has to be read takes a time that grows with it, and not with its square: here some 50 ms, and 2 s with bytes that are joined anew."""
+        """What has to be read takes a time that grows with it, and not with its square: here some
+        50 ms, and 2 s with bytes that are joined anew."""
         self.recorded_by(lambda it: it.create("Item"), CREATED)
 
         def seconds():

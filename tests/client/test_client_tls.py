@@ -1,4 +1,5 @@
-"""Sessions over TLS: what is checked by default, and the exception of each fault, within the timeout."""
+"""Sessions over TLS: what is checked by default, and the exception of each fault, within the
+timeout."""
 import asyncio
 import os
 import shutil
@@ -10,9 +11,9 @@ import threading
 import time
 import unittest
 
-from certificates import Authority
-from clients import FULL, PROGRAM, ClientCases, oaut
 from oaut import aio, faults, tls
+from tests.client.clients import FULL, PROGRAM, ClientCases, oaut
+from tests.support.certificates import Authority
 
 MISSING = None if shutil.which("openssl") else "openssl is not there"
 
@@ -44,10 +45,13 @@ class Front:
                 sock.close()
                 continue
             with local:
-                self.children.append(subprocess.Popen([PROGRAM, "play", FULL], stdin=local, stdout=local))
+                self.children.append(
+                    subprocess.Popen([PROGRAM, "play", FULL], stdin=local, stdout=local)
+                )
 
     def child(self):
-        """The server of the first connection: it may have answered before its thread has noted it."""
+        """The server of the first connection: it may have answered before its thread has noted
+        it."""
         until = time.monotonic() + 300
         while not self.children and time.monotonic() < until:
             time.sleep(0.01)
@@ -67,7 +71,8 @@ class Front:
 
 
 def plain(answer):
-    """A port whose server knows nothing of TLS: it answers these bytes, closes at once, or is silent."""
+    """A port whose server knows nothing of TLS: it answers these bytes, closes at once, or is
+    silent."""
     there = socket.create_server(("127.0.0.1", 0))
 
     def serve():
@@ -123,7 +128,11 @@ class Tls(ClientCases):
             error = self.raises(f"{what}, {name}", kind, act)
             self.same(f"{what}, {name}: its kind", type(error), kind)
             self.tell(f"{what}, {name}: it says {says}", says in str(error), str(error))
-            self.tell(f"{what}, {name}: within the timeout", time.monotonic() - begun < timeout + 60, time.monotonic() - begun)
+            self.tell(
+                f"{what}, {name}: within the timeout",
+                time.monotonic() - begun < timeout + 60,
+                time.monotonic() - begun,
+            )
 
     def test_a_session(self):
         with Front(self.server) as front:
@@ -151,20 +160,52 @@ class Tls(ClientCases):
 
     def test_another_name(self):
         with Front(self.server) as front:
-            with oaut.connect(front.url("127.0.0.1", ca=self.own.path, name="items.stores.example"), timeout=60) as server:
+            with oaut.connect(
+                front.url("127.0.0.1", ca=self.own.path, name="items.stores.example"), timeout=60
+            ) as server:
                 self.same("a session", server.objects(), [])
             self.same("the name that was asked for", front.names, ["items.stores.example"])
 
     def test_certificates_of_servers(self):
         with Front(self.server) as front:
-            self.refused("of nobody's", front.url(), faults.CertificateRefused, "certificate is refused: unable to get local issuer certificate")
-            self.refused("of another authority", front.url(ca=self.other.path), faults.CertificateRefused, "certificate is refused")
-            self.refused("of another name", front.url("127.0.0.1", ca=self.own.path), faults.WrongHostName, "127.0.0.1")
-            self.refused("a name that is not its own", front.url(ca=self.own.path, name="items.example"), faults.WrongHostName, "items.example")
+            self.refused(
+                "of nobody's",
+                front.url(),
+                faults.CertificateRefused,
+                "certificate is refused: unable to get local issuer certificate",
+            )
+            self.refused(
+                "of another authority",
+                front.url(ca=self.other.path),
+                faults.CertificateRefused,
+                "certificate is refused",
+            )
+            self.refused(
+                "of another name",
+                front.url("127.0.0.1", ca=self.own.path),
+                faults.WrongHostName,
+                "127.0.0.1",
+            )
+            self.refused(
+                "a name that is not its own",
+                front.url(ca=self.own.path, name="items.example"),
+                faults.WrongHostName,
+                "items.example",
+            )
         with Front(self.own.signed("old", "localhost", end="20210101000000Z")) as front:
-            self.refused("that has expired", front.url(ca=self.own.path), faults.CertificateExpired, "certificate has expired")
+            self.refused(
+                "that has expired",
+                front.url(ca=self.own.path),
+                faults.CertificateExpired,
+                "certificate has expired",
+            )
         with Front(self.own.signed("new", "localhost", begin="20980101000000Z")) as front:
-            self.refused("that is not valid yet", front.url(ca=self.own.path), faults.CertificateExpired, "not yet valid")
+            self.refused(
+                "that is not valid yet",
+                front.url(ca=self.own.path),
+                faults.CertificateExpired,
+                "not yet valid",
+            )
 
     def test_servers_without_tls(self):
         for what, answer, timeout in (
@@ -180,34 +221,79 @@ class Tls(ClientCases):
     def test_certificates_of_clients(self):
         theirs = self.other.signed("me")
         with Front(self.server, self.own.path) as front:
-            with oaut.connect(front.url(ca=self.own.path, cert=self.client[0], key=self.client[1]), timeout=60) as server:
+            with oaut.connect(
+                front.url(ca=self.own.path, cert=self.client[0], key=self.client[1]), timeout=60
+            ) as server:
                 self.same("a session", server.objects(), [])
-            self.refused("none", front.url(ca=self.own.path), faults.ClientCertificateRefused, "certificate required, and no cert was given")
-            self.refused("of another authority", front.url(ca=self.own.path, cert=theirs[0], key=theirs[1]), faults.ClientCertificateRefused, "unknown ca")
+            self.refused(
+                "none",
+                front.url(ca=self.own.path),
+                faults.ClientCertificateRefused,
+                "certificate required, and no cert was given",
+            )
+            self.refused(
+                "of another authority",
+                front.url(ca=self.own.path, cert=theirs[0], key=theirs[1]),
+                faults.ClientCertificateRefused,
+                "unknown ca",
+            )
 
     def test_files(self):
         locked = f"{self.room}/locked.key"
-        subprocess.run(["openssl", "ec", "-in", self.client[1], "-aes256", "-passout", "pass:x", "-out", locked], check=True, stderr=subprocess.DEVNULL)
+        subprocess.run(
+            [
+                "openssl",
+                "ec",
+                "-in",
+                self.client[1],
+                "-aes256",
+                "-passout",
+                "pass:x",
+                "-out",
+                locked,
+            ],
+            check=True,
+            stderr=subprocess.DEVNULL,
+        )
         with Front(self.server) as front:
-            gone = self.raises("one that is not there", FileNotFoundError, lambda: oaut.connect(front.url(ca="/nowhere.pem")))
+            gone = self.raises(
+                "one that is not there",
+                FileNotFoundError,
+                lambda: oaut.connect(front.url(ca="/nowhere.pem")),
+            )
             self.same("its name", gone.filename, "/nowhere.pem")
             url = front.url(ca=self.own.path, cert=self.client[0], key=self.server[1])
-            self.raises("another's key", oaut.TlsFailed, lambda: oaut.connect(url), f"oauts://localhost:{front.port}: the key is not that of the certificate")
+            self.raises(
+                "another's key",
+                oaut.TlsFailed,
+                lambda: oaut.connect(url),
+                f"oauts://localhost:{front.port}: the key is not that of the certificate",
+            )
             url = front.url(ca=self.server[1])
             self.raises(
                 "no certificate",
                 oaut.TlsFailed,
                 lambda: oaut.connect(url),
-                f"oauts://localhost:{front.port}: a file of the address is no certificate, or no key",
+                f"oauts://localhost:{front.port}: a file of the address is no certificate, or no "
+                "key",
             )
             url = front.url(ca=self.own.path, cert=self.client[0], key=locked)
-            self.raises("a key with a password", oaut.TlsFailed, lambda: oaut.connect(url), f"{locked}: the key is encrypted")
+            self.raises(
+                "a key with a password",
+                oaut.TlsFailed,
+                lambda: oaut.connect(url),
+                f"{locked}: the key is encrypted",
+            )
 
     def test_patience(self):
         """It waits for a server, and not where it is not trusted."""
         with Front(self.server) as front:
             begun = time.monotonic()
-            self.raises("another authority", faults.CertificateRefused, lambda: oaut.connect(front.url(ca=self.other.path), patience=300))
+            self.raises(
+                "another authority",
+                faults.CertificateRefused,
+                lambda: oaut.connect(front.url(ca=self.other.path), patience=300),
+            )
             self.tell("at once", time.monotonic() - begun < 100, time.monotonic() - begun)
             with oaut.connect(front.url(ca=self.own.path), patience=60, timeout=60) as server:
                 self.same("a session", server.objects(), [])

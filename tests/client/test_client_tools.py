@@ -1,4 +1,5 @@
-"""What the client says of files and addresses that are not there, and its commands: one console script, its completion, and what a monitor asks."""
+"""What the client says of files and addresses that are not there, and its commands: one console
+script, its completion, and what a monitor asks."""
 import asyncio
 import hashlib
 import json
@@ -14,9 +15,9 @@ import unittest
 import zipfile
 from unittest import mock
 
-from clients import ENVIRONMENT, FULL, PACKAGE, PROGRAM, ROOT, ClientCases, oaut
 from oaut import commands, dumps, files, salvage
 from oaut import store as stores
+from tests.client.clients import ENVIRONMENT, FULL, PACKAGE, PROGRAM, ROOT, ClientCases, oaut
 
 
 def unused_port(case):
@@ -30,22 +31,34 @@ def unused_port(case):
 @unittest.skipUnless(os.path.exists(PROGRAM), "the program is not there")
 class WhatIsNotThere(ClientCases):
     def missing(self, name, act, path):
-        """An act that names a file that is not there raises one kind of exception: the library's own, and Python's."""
-        error = self.raises(name, oaut.NoSuchFile, act, f"{path}: No such file or directory", filename=path, errno=2)
-        self.tell(f"{name}: both kinds", isinstance(error, oaut.Error) and isinstance(error, FileNotFoundError))
+        """An act that names a file that is not there raises one kind of exception: the library's
+        own, and Python's."""
+        error = self.raises(
+            name, oaut.NoSuchFile, act, f"{path}: No such file or directory", filename=path, errno=2
+        )
+        self.tell(
+            f"{name}: both kinds",
+            isinstance(error, oaut.Error) and isinstance(error, FileNotFoundError),
+        )
 
     def test_a_library(self):
         self.missing("play", lambda: oaut.play("/no/such.idl", PROGRAM), "/no/such.idl")
 
     def test_a_library_of_a_new_store(self):
         with tempfile.TemporaryDirectory() as room:
-            self.missing("open", lambda: oaut.open(f"{room}/it.store", "/no/such.idl", program=PROGRAM), "/no/such.idl")
+            self.missing(
+                "open",
+                lambda: oaut.open(f"{room}/it.store", "/no/such.idl", program=PROGRAM),
+                "/no/such.idl",
+            )
 
     def test_a_store_with_its_own_library(self):
         self.missing("open", lambda: oaut.open("/no/such.store", program=PROGRAM), "/no/such.store")
 
     def test_a_store_with_a_named_library(self):
-        self.missing("serve", lambda: oaut.serve("/no/such.store", FULL, program=PROGRAM), "/no/such.store")
+        self.missing(
+            "serve", lambda: oaut.serve("/no/such.store", FULL, program=PROGRAM), "/no/such.store"
+        )
 
 
 class Addresses(ClientCases):
@@ -53,7 +66,11 @@ class Addresses(ClientCases):
         with socket.create_server(("127.0.0.1", 0)) as listening:
             port = listening.getsockname()[1]
             server = oaut.connect(f"127.0.0.1:{port}", timeout=60)
-            self.same("what it is connected to", repr(server), f"<oaut.Server: connected to 127.0.0.1:{port}>")
+            self.same(
+                "what it is connected to",
+                repr(server),
+                f"<oaut.Server: connected to 127.0.0.1:{port}>",
+            )
             listening.accept()[0].close()
             server.close()
 
@@ -73,11 +90,23 @@ class Addresses(ClientCases):
 
     def test_a_port_where_nobody_listens(self):
         port = unused_port(self)
-        error = self.raises("connect", ConnectionRefusedError, lambda: oaut.connect(("127.0.0.1", port)), errno=111, filename=f"127.0.0.1:{port}")
+        error = self.raises(
+            "connect",
+            ConnectionRefusedError,
+            lambda: oaut.connect(("127.0.0.1", port)),
+            errno=111,
+            filename=f"127.0.0.1:{port}",
+        )
         self.tell("it names the address", f"127.0.0.1:{port}" in str(error), error)
 
     def test_a_path_where_nothing_is(self):
-        error = self.raises("connect", FileNotFoundError, lambda: oaut.connect("/no/such.sock"), errno=2, filename="/no/such.sock")
+        error = self.raises(
+            "connect",
+            FileNotFoundError,
+            lambda: oaut.connect("/no/such.sock"),
+            errno=2,
+            filename="/no/such.sock",
+        )
         self.tell("it names the path", "/no/such.sock" in str(error), error)
 
     def test_an_awaited_session(self):
@@ -86,12 +115,18 @@ class Addresses(ClientCases):
         async def begin():
             await oaut.aio.connect(f"127.0.0.1:{port}")
 
-        error = self.raises("connect", ConnectionRefusedError, lambda: asyncio.run(begin()), errno=111)
+        error = self.raises(
+            "connect", ConnectionRefusedError, lambda: asyncio.run(begin()), errno=111
+        )
         self.tell("it names the address", f"127.0.0.1:{port}" in str(error), error)
 
     def test_nobody_within_its_patience(self):
         port = unused_port(self)
-        error = self.raises("connect", ConnectionRefusedError, lambda: oaut.connect(("127.0.0.1", port), patience=0.2))
+        error = self.raises(
+            "connect",
+            ConnectionRefusedError,
+            lambda: oaut.connect(("127.0.0.1", port), patience=0.2),
+        )
         self.tell("it names the address", f"127.0.0.1:{port}" in str(error), error)
 
 
@@ -101,9 +136,14 @@ class NoLibrary(ClientCases):
         """As `oaut check --where` prints them."""
         with tempfile.NamedTemporaryFile("w", suffix=".idl") as file:
             file.write("[uuid(11223344-5566-7788-99AA-BBCCDDEEFF01), version(1.0)] library X {\n")
-            file.write("[uuid(11223344-5566-7788-99AA-BBCCDDEEFF02)] dispinterface D { properties: [id(1)] float X; }; };\n")
+            file.write(
+                "[uuid(11223344-5566-7788-99AA-BBCCDDEEFF02)] dispinterface D { properties: "
+                "[id(1)] float X; }; };\n"
+            )
             file.flush()
-            said = subprocess.run([PROGRAM, "check", "--where", file.name], capture_output=True, text=True).stderr.splitlines()
+            said = subprocess.run(
+                [PROGRAM, "check", "--where", file.name], capture_output=True, text=True
+            ).stderr.splitlines()
             shown, note = said[1].partition(": ")[2], said[-1]
             with self.assertRaises(oaut.NotALibrary) as caught:
                 oaut.play(file.name, PROGRAM)
@@ -115,7 +155,14 @@ class NoLibrary(ClientCases):
 
 def tools(*words, **how):
     """The status of the tools, and what they print."""
-    done = subprocess.run([sys.executable, "-m", "oaut", *words], env=ENVIRONMENT, capture_output=True, text=True, timeout=300, **how)
+    done = subprocess.run(
+        [sys.executable, "-m", "oaut", *words],
+        env=ENVIRONMENT,
+        capture_output=True,
+        text=True,
+        timeout=300,
+        **how,
+    )
     return done.returncode, done.stdout, done.stderr
 
 
@@ -144,19 +191,30 @@ class Info(OfAStore):
     def test_an_empty_store(self):
         found = files.info(self.path)
         told = {it: found[it] for it in ("limit", "used", "free", "percent", "exact")}
-        # docs/reference/store.md: the image of a table is a bank less 5,242,880 at most, and without objects 8 bytes
-        self.same("what is used", told, {"limit": 15_728_640, "used": 8, "free": 15_728_632, "percent": 0.0, "exact": True})
+        # docs/reference/store.md: the image of a table is a bank less 5,242,880 at most, and
+        # without objects 8 bytes
+        self.same(
+            "what is used",
+            told,
+            {"limit": 15_728_640, "used": 8, "free": 15_728_632, "percent": 0.0, "exact": True},
+        )
 
     def test_behind_some_groups(self):
         self.filled(1_000)
         found = files.info(self.path)
         # docs/reference/images.md: an object without cells has 24 bytes
-        self.tell("it is about that", found["exact"] is False and 20_000 < found["used"] < 30_000, found)
+        self.tell(
+            "it is about that", found["exact"] is False and 20_000 < found["used"] < 30_000, found
+        )
 
     def test_counted(self):
         self.filled(1_000)
         found = dumps.counted(self.path)
-        self.same("it is that", (found["used"], found["exact"], found["free"]), (24_008, True, 15_728_640 - 24_008))
+        self.same(
+            "it is that",
+            (found["used"], found["exact"], found["free"]),
+            (24_008, True, 15_728_640 - 24_008),
+        )
 
     def test_objects_are_not_read(self):
         self.filled(10)
@@ -202,13 +260,19 @@ class Sparse(ClientCases):
         self.same("its size", self.made(sparse=True, bank=25_000_000)[0], 83_562_624)
 
     def test_a_file_that_is_there(self):
-        self.raises("it", ValueError, lambda: oaut.make_store("/no/such.store", FULL, PROGRAM, replace=True, sparse=True))
+        self.raises(
+            "it",
+            ValueError,
+            lambda: oaut.make_store("/no/such.store", FULL, PROGRAM, replace=True, sparse=True),
+        )
 
 
 class Verify(OfAStore):
     def digest(self, path):
         """The digest of what the program's dump prints."""
-        return hashlib.sha256(subprocess.run([PROGRAM, "dump", path], capture_output=True, check=True).stdout).hexdigest()
+        return hashlib.sha256(
+            subprocess.run([PROGRAM, "dump", path], capture_output=True, check=True).stdout
+        ).hexdigest()
 
     def test_it_is_that_of_the_dump(self):
         self.filled(3)
@@ -233,7 +297,11 @@ class Verify(OfAStore):
         self.same("it is that", tools("store", "verify", self.path, digest.upper())[0], 0)
         self.filled(1)
         status, _, err = tools("store", "verify", self.path, digest)
-        self.same("it is another", (status, err), (1, f"python3 -m oaut: {self.path}: its objects have another digest than {digest}\n"))
+        self.same(
+            "it is another",
+            (status, err),
+            (1, f"python3 -m oaut: {self.path}: its objects have another digest than {digest}\n"),
+        )
 
     def test_a_damaged_store(self):
         self.filled(3)
@@ -242,7 +310,11 @@ class Verify(OfAStore):
             place = stores.LEAST + found["library_size"] + found["snapshot_size"]
             file.seek(place + 5)
             file.write(b"\xff")
-        self.same("where", tools("store", "verify", self.path)[::2], (1, f"python3 -m oaut: {self.path}: damaged at {place}\n"))
+        self.same(
+            "where",
+            tools("store", "verify", self.path)[::2],
+            (1, f"python3 -m oaut: {self.path}: damaged at {place}\n"),
+        )
 
 
 class Progress(OfAStore):
@@ -254,7 +326,12 @@ class Progress(OfAStore):
     def test_salvage(self):
         self.filled(3)
         told = []
-        salvage.salvage(self.path, f"{self.room}/new", program=PROGRAM, progress=lambda done, whole: told.append(done == whole))
+        salvage.salvage(
+            self.path,
+            f"{self.room}/new",
+            program=PROGRAM,
+            progress=lambda done, whole: told.append(done == whole),
+        )
         self.same("its end is told", told[-1:], [True])
 
     def test_no_bar_within_the_data(self):
@@ -266,17 +343,32 @@ class Progress(OfAStore):
 
 class Signals(OfAStore):
     def ended_by(self, number):
-        """The status of a restore that a signal ends, what it says, and the files that are there."""
+        """The status of a restore that a signal ends, what it says, and the files that are
+        there."""
         words = [sys.executable, "-m", "oaut", "store", "restore", "-", f"{self.room}/new"]
         # (a gate that was begun by nohup ignores SIGHUP, and so would what it starts)
-        ready = lambda: signal.signal(number, signal.SIG_DFL if number != signal.SIGINT else signal.default_int_handler)
-        with subprocess.Popen(words, stdin=subprocess.PIPE, stderr=subprocess.PIPE, env=ENVIRONMENT, preexec_fn=ready) as child:
+        ready = lambda: signal.signal(
+            number, signal.SIG_DFL if number != signal.SIGINT else signal.default_int_handler
+        )
+        with subprocess.Popen(
+            words, stdin=subprocess.PIPE, stderr=subprocess.PIPE, env=ENVIRONMENT, preexec_fn=ready
+        ) as child:
             with open(FULL, encoding="utf-8") as file:
-                text = json.dumps(subprocess.run([PROGRAM, "check", file.name], capture_output=True, text=True).stdout)
-            child.stdin.write(f'{{"dump": "oaut", "form": 1, "library": {text}, "next": 1, "objects": ['.encode() + b" " * 300_000)
+                text = json.dumps(
+                    subprocess.run(
+                        [PROGRAM, "check", file.name], capture_output=True, text=True
+                    ).stdout
+                )
+            child.stdin.write(
+                f'{{"dump": "oaut", "form": 1, "library": {text}, "next": 1, "objects": ['.encode()
+                + b" " * 300_000
+            )
             child.stdin.flush()
             until = time.monotonic() + 300
-            while not any(it.startswith(".oaut-") for it in os.listdir(self.room)) and time.monotonic() < until:
+            while (
+                not any(it.startswith(".oaut-") for it in os.listdir(self.room))
+                and time.monotonic() < until
+            ):
                 time.sleep(0.01)
             child.send_signal(number)
             try:
@@ -293,18 +385,32 @@ class Signals(OfAStore):
             raise KeyboardInterrupt
 
         os_open = os.open
-        with mock.patch.object(files.os, "open", interrupted), self.assertRaises(KeyboardInterrupt), files.new_file(f"{self.room}/new"):
+        with mock.patch.object(files.os, "open", interrupted), self.assertRaises(
+            KeyboardInterrupt
+        ), files.new_file(f"{self.room}/new"):
             pass
         self.same("no file", sorted(os.listdir(self.room)), ["it.store"])
 
     def test_an_interrupt(self):
-        self.same("the status, no traceback, no file", self.ended_by(signal.SIGINT), (130, "", ["it.store"]))
+        self.same(
+            "the status, no traceback, no file",
+            self.ended_by(signal.SIGINT),
+            (130, "", ["it.store"]),
+        )
 
     def test_a_terminal_that_closes(self):
-        self.same("the status, nothing said, no file", self.ended_by(signal.SIGHUP), (129, "", ["it.store"]))
+        self.same(
+            "the status, nothing said, no file",
+            self.ended_by(signal.SIGHUP),
+            (129, "", ["it.store"]),
+        )
 
     def test_a_kill(self):
-        self.same("the status, nothing said, no file", self.ended_by(signal.SIGTERM), (143, "", ["it.store"]))
+        self.same(
+            "the status, nothing said, no file",
+            self.ended_by(signal.SIGTERM),
+            (143, "", ["it.store"]),
+        )
 
 
 class PassedOn(OfAStore):
@@ -312,7 +418,12 @@ class PassedOn(OfAStore):
         super().setUp()
         os.mkdir(f"{self.room}/bin")
         os.symlink(PROGRAM, f"{self.room}/bin/oaut")
-        self.how = {"env": {**ENVIRONMENT, "PATH": f"{self.room}/bin:{os.environ['PATH']}"}, "capture_output": True, "text": True, "timeout": 300}
+        self.how = {
+            "env": {**ENVIRONMENT, "PATH": f"{self.room}/bin:{os.environ['PATH']}"},
+            "capture_output": True,
+            "text": True,
+            "timeout": 300,
+        }
 
     def tools(self, *words, **how):
         done = subprocess.run([sys.executable, "-m", "oaut", *words], **self.how, **how)
@@ -333,8 +444,14 @@ class PassedOn(OfAStore):
         self.tell("of play", "Usage: oaut play" in self.tools("play", "--help")[1])
 
     def test_its_input(self):
-        with open(f"{ROOT}/examples/first.hex") as asked, open(f"{ROOT}/examples/first.out") as answered:
-            self.same("play", self.tools("play", f"{ROOT}/examples/small.idl", "--hex", input=asked.read()), (0, answered.read(), ""))
+        with open(f"{ROOT}/examples/first.hex") as asked, open(
+            f"{ROOT}/examples/first.out"
+        ) as answered:
+            self.same(
+                "play",
+                self.tools("play", f"{ROOT}/examples/small.idl", "--hex", input=asked.read()),
+                (0, answered.read(), ""),
+            )
 
     def test_a_dump(self):
         self.filled(2)
@@ -348,15 +465,30 @@ class PassedOn(OfAStore):
         self.same("dump", (done.returncode, done.stdout, done.stderr), (141, "next 3001\n", ""))
 
     def test_no_program(self):
-        done = subprocess.run([sys.executable, "-m", "oaut", "check", FULL], **{**self.how, "env": {**ENVIRONMENT, "PATH": ""}})
-        self.same("a line", (done.returncode, done.stderr.count("\n"), "there is no program oaut" in done.stderr), (1, 1, True))
+        done = subprocess.run(
+            [sys.executable, "-m", "oaut", "check", FULL],
+            **{**self.how, "env": {**ENVIRONMENT, "PATH": ""}},
+        )
+        self.same(
+            "a line",
+            (done.returncode, done.stderr.count("\n"), "there is no program oaut" in done.stderr),
+            (1, 1, True),
+        )
 
 
 class Completed(ClientCases):
     def completed(self, *words):
         """What bash offers for the last word."""
-        line = f'source {ROOT}/dist/oaut-tools.bash; COMP_WORDS=("$@"); COMP_CWORD=$(($# - 1)); _oaut_tools; printf "%s\\n" "${{COMPREPLY[@]}}"'
-        done = subprocess.run(["bash", "-c", line, "bash", *words], cwd=f"{ROOT}/examples", capture_output=True, text=True)
+        line = (
+            f'source {ROOT}/dist/oaut-tools.bash; COMP_WORDS=("$@"); COMP_CWORD=$(($# - 1)); '
+            f'_oaut_tools; printf "%s\\n" "${{COMPREPLY[@]}}"'
+        )
+        done = subprocess.run(
+            ["bash", "-c", line, "bash", *words],
+            cwd=f"{ROOT}/examples",
+            capture_output=True,
+            text=True,
+        )
         self.same(f"bash, of {words}", done.stderr, "")
         return done.stdout.split("\n")[:-1]
 
@@ -367,13 +499,19 @@ class Completed(ClientCases):
         self.same("of store", self.completed("oaut-tools", "store", "sa"), ["salvage"])
 
     def test_options(self):
-        self.same("of info", self.completed("oaut-tools", "store", "info", "--"), ["--help", "--live", "--json", "--objects"])
+        self.same(
+            "of info",
+            self.completed("oaut-tools", "store", "info", "--"),
+            ["--help", "--live", "--json", "--objects"],
+        )
 
     def test_options_of_the_program(self):
         self.same("of dump", self.completed("oaut-tools", "dump", "--"), ["--library", "--help"])
 
     def test_files(self):
-        self.same("of info", sorted(self.completed("oaut-tools", "store", "info", "full.i")), ["full.idl"])
+        self.same(
+            "of info", sorted(self.completed("oaut-tools", "store", "info", "full.i")), ["full.idl"]
+        )
 
     def test_it_is_what_the_command_prints(self):
         with open(f"{ROOT}/dist/oaut-tools.bash") as file:
@@ -388,34 +526,53 @@ class Wheel(ClientCases):
                 if name is not None:
                     with open(f"{room}/program", "wb") as file:
                         file.write(b"GLIBC_2.34")
-                done = subprocess.run([sys.executable, "-c", BUILD, PACKAGE, room, name and f"{room}/{name}" or ""], capture_output=True, text=True)
+                done = subprocess.run(
+                    [sys.executable, "-c", BUILD, room, name and f"{room}/{name}" or ""],
+                    env={**os.environ, "PYTHONPATH": PACKAGE},
+                    capture_output=True,
+                    text=True,
+                )
                 self.same("it is built", (done.returncode, done.stderr), (0, ""))
                 with zipfile.ZipFile(f"{room}/{done.stdout.strip()}") as archive:
-                    self.files[name] = {it.partition("/")[2]: archive.read(it) for it in archive.namelist() if ".dist-info/" in it}
+                    self.files[name] = {
+                        it.partition("/")[2]: archive.read(it)
+                        for it in archive.namelist()
+                        if ".dist-info/" in it
+                    }
 
     def test_entry_points(self):
-        wanted = b"[console_scripts]\noaut-tools = oaut.__main__:run_as_command\n\n[pytest11]\noaut = oaut.pytest\n"
+        wanted = (
+            b"[console_scripts]\noaut-tools = oaut.__main__:run_as_command\n\n[pytest11]\n"
+            b"oaut = oaut.pytest\n"
+        )
         self.same("of the wheel", self.files[None]["entry_points.txt"], wanted)
 
     def test_metadata(self):
-        self.tell("its classifiers", b"\nClassifier: Typing :: Typed\n" in self.files[None]["METADATA"])
+        self.tell(
+            "its classifiers", b"\nClassifier: Typing :: Typed\n" in self.files[None]["METADATA"]
+        )
         licence = re.search(rb"\nLicense: (.*)\n", self.files[None]["METADATA"])
         for page in (f"{ROOT}/README.md", f"{PACKAGE}/README.md"):
             with open(page, encoding="utf-8") as file:
                 said = re.search(r"\*\*Licence\*\*: (.*)\.$", file.read(), re.MULTILINE)
             self.tell(
-                f"{page} has the licence of the metadata", licence and said and said[1].encode() == licence[1], (licence and licence[1], said and said[1])
+                f"{page} has the licence of the metadata",
+                licence and said and said[1].encode() == licence[1],
+                (licence and licence[1], said and said[1]),
             )
 
     def test_whether_the_program_is_in_it(self):
         told = b"The program `oaut` is in this wheel"
-        self.same("without, with", [told in self.files[it]["METADATA"] for it in (None, "program")], [False, True])
+        self.same(
+            "without, with",
+            [told in self.files[it]["METADATA"] for it in (None, "program")],
+            [False, True],
+        )
 
 
 BUILD = """import sys
-sys.path.insert(0, sys.argv[1])
 import wheels
-print(wheels.build_wheel(sys.argv[2], {"program": sys.argv[3]} if sys.argv[3] else None))
+print(wheels.build_wheel(sys.argv[1], {"program": sys.argv[2]} if sys.argv[2] else None))
 """
 
 
@@ -425,8 +582,18 @@ class Show(ClientCases):
         given = "create Item\nput 1 Count 7\nshow 1\n"
         status, said, err = tools("talk", FULL, "--program", PROGRAM, input=given)
         lines = said.splitlines()
-        self.same("its first lines", (status, err, lines[1:4]), (0, "", ["<Item 1>", "  Count: long = I4(7)", "  Name: BSTR = null"]))
-        self.same("a member with parameters", lines[-2], "  Cell: BSTR(long Row, BSTR Key, short Page)")
+        self.same(
+            "its first lines",
+            (status, err, lines[1:4]),
+            (0, "", ["<Item 1>", "  Count: long = I4(7)", "  Name: BSTR = null"]),
+        )
+        self.same(
+            "a member with parameters", lines[-2], "  Cell: BSTR(long Row, BSTR Key, short Page)"
+        )
 
     def test_no_such_object(self):
-        self.same("its fault", tools("talk", FULL, "--program", PROGRAM, input="show 5\n"), (1, "", "line 1: no object 5; create makes one\n"))
+        self.same(
+            "its fault",
+            tools("talk", FULL, "--program", PROGRAM, input="show 5\n"),
+            (1, "", "line 1: no object 5; create makes one\n"),
+        )

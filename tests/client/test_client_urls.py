@@ -5,9 +5,9 @@ import socket
 import tempfile
 import threading
 
-from clients import FULL, PROGRAM, ClientCases, oaut
 from oaut import aio
 from oaut.addresses import Secure, address_of, address_words
+from tests.client.clients import FULL, PROGRAM, ClientCases, oaut
 
 # of each address what it is
 READ = [
@@ -19,7 +19,10 @@ READ = [
     ("oaut://[::1]:8000", ("::1", 8000)),
     ("oaut://[fe80::1%25eth0]", ("fe80::1%eth0", 8765)),
     ("oauts://items.example", Secure("items.example", 8766)),
-    ("oauts://items.example:1?ca=/a%26b&cert=c+d&key=%25", Secure("items.example", 1, "/a&b", "c+d", "%")),
+    (
+        "oauts://items.example:1?ca=/a%26b&cert=c+d&key=%25",
+        Secure("items.example", 1, "/a&b", "c+d", "%"),
+    ),
     ("oauts://10.0.0.1?name=items.example", Secure("10.0.0.1", 8766, name="items.example")),
     ("localhost:8765", ("localhost", 8765)),
     ("[::1]:8765", ("::1", 8765)),
@@ -58,14 +61,25 @@ class Addresses(ClientCases):
     def test_what_is_none(self):
         for given, told in WRONG:
             self.raises(given, ValueError, lambda: address_of(given), f"{given}: {told}")
-            self.raises(f"{given} at connect", ValueError, lambda: oaut.connect(given), f"{given}: {told}")
+            self.raises(
+                f"{given} at connect", ValueError, lambda: oaut.connect(given), f"{given}: {told}"
+            )
 
     def test_what_no_host_is_named(self):
         for host in ("a" * 64, f"{'a' * 64}.example", "a..example"):
             for url in (f"oaut://{host}:1", f"oauts://{host}:1"):
-                for what, act in (("", lambda: oaut.connect(url, timeout=60)), (" in asyncio", lambda: asyncio.run(self.awaited(url)))):
+                for what, act in (
+                    ("", lambda: oaut.connect(url, timeout=60)),
+                    (" in asyncio", lambda: asyncio.run(self.awaited(url))),
+                ):
                     told = "not a host's name: each of its parts has 1 to 63 characters"
-                    self.raises(f"{url}{what}", socket.gaierror, act, strerror=told, filename=address_words(address_of(url)))
+                    self.raises(
+                        f"{url}{what}",
+                        socket.gaierror,
+                        act,
+                        strerror=told,
+                        filename=address_words(address_of(url)),
+                    )
 
     def test_a_timeout_that_is_none(self):
         """Seconds within which no reply can come."""
@@ -76,8 +90,16 @@ class Addresses(ClientCases):
             for what, act in (
                 ("play", lambda: oaut.play(FULL, program=PROGRAM, timeout=timeout)),
                 ("connect", lambda: oaut.connect(address, timeout=timeout)),
-                ("play in asyncio", lambda: asyncio.run(self.begun(aio.play(FULL, program=PROGRAM, timeout=timeout)))),
-                ("connect in asyncio", lambda: asyncio.run(self.begun(aio.connect(address, timeout=timeout)))),
+                (
+                    "play in asyncio",
+                    lambda: asyncio.run(
+                        self.begun(aio.play(FULL, program=PROGRAM, timeout=timeout))
+                    ),
+                ),
+                (
+                    "connect in asyncio",
+                    lambda: asyncio.run(self.begun(aio.connect(address, timeout=timeout))),
+                ),
             ):
                 self.raises(f"{what}, {timeout}", ValueError, act, told)
         port.close()
@@ -87,7 +109,11 @@ class Addresses(ClientCases):
             pass
 
     def test_words(self):
-        for given, told in (("oauts://[::1]?key=a&cert=b", "oauts://[::1]:8766"), ("oaut://host", "host:8765"), ("oaut+unix:///a%20b", "/a b")):
+        for given, told in (
+            ("oauts://[::1]?key=a&cert=b", "oauts://[::1]:8766"),
+            ("oaut://host", "host:8765"),
+            ("oaut+unix:///a%20b", "/a b"),
+        ):
             self.same(given, address_words(address_of(given)), told)
 
     def test_sessions(self):
@@ -100,15 +126,26 @@ class Addresses(ClientCases):
             for it in (there, port):
                 it.listen()
                 threading.Thread(target=self.serve, args=(it,), daemon=True).start()
-            for url in (f"oaut+unix://{room}/a%20b%25.sock", f"oaut://127.0.0.1:{port.getsockname()[1]}"):
+            for url in (
+                f"oaut+unix://{room}/a%20b%25.sock",
+                f"oaut://127.0.0.1:{port.getsockname()[1]}",
+            ):
                 with oaut.connect(url, timeout=60) as server:
                     item = server.create("Item")
                     item.Count = 7
-                    self.same(url, (int(item.Count), repr(server)), (7, f"<oaut.Server: connected to {address_words(address_of(url))}>"))
+                    self.same(
+                        url,
+                        (int(item.Count), repr(server)),
+                        (7, f"<oaut.Server: connected to {address_words(address_of(url))}>"),
+                    )
                 self.same(f"{url} in asyncio", asyncio.run(self.awaited(url)), 8)
             there.close()
             port.close()
-            gone = self.raises("a path where nobody listens", FileNotFoundError, lambda: oaut.connect(f"oaut+unix://{room}/none"))
+            gone = self.raises(
+                "a path where nobody listens",
+                FileNotFoundError,
+                lambda: oaut.connect(f"oaut+unix://{room}/none"),
+            )
             self.same("its name", gone.filename, f"{room}/none")
 
     async def awaited(self, url):

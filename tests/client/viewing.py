@@ -1,4 +1,5 @@
-"""The page of `python3 -m oaut view`, as its cases have it: over a store or a session, and in a browser without a window."""
+"""The page of `python3 -m oaut view`, as its cases have it: over a store or a session, and in a
+browser without a window."""
 import functools
 import http.client
 import json
@@ -10,9 +11,9 @@ import sys
 import time
 import unittest
 
-from clients import ENVIRONMENT, ClientCases
 from oaut import store as stores
-from running import FULL_TEXT, PROGRAM, TESTS
+from tests.client.clients import ENVIRONMENT, ClientCases
+from tests.support.running import FULL_TEXT, PROGRAM, TESTS
 
 TOKEN = "word-of-a-test"
 SCRIPT = "<script>document.title = 'taken'</script><img src=x onerror=\"document.title = 'taken'\">"
@@ -35,8 +36,20 @@ class Page:
 
     def __init__(self, *words):
         environment = {**ENVIRONMENT, "OAUT_VIEW_TOKEN": TOKEN}
-        words = [python_with("aiohttp"), "-m", "oaut", "view", "--listen", "127.0.0.1:0", "--program", PROGRAM, *words]
-        self.child = subprocess.Popen(words, env=environment, stdout=subprocess.PIPE, stderr=subprocess.PIPE, text=True)
+        words = [
+            python_with("aiohttp"),
+            "-m",
+            "oaut",
+            "view",
+            "--listen",
+            "127.0.0.1:0",
+            "--program",
+            PROGRAM,
+            *words,
+        ]
+        self.child = subprocess.Popen(
+            words, env=environment, stdout=subprocess.PIPE, stderr=subprocess.PIPE, text=True
+        )
         self.address = self.child.stdout.readline().strip()
         if not self.address:
             raise AssertionError(self.child.communicate()[1])
@@ -58,7 +71,10 @@ class Page:
         given = {it.replace("_", "-"): word for it, word in headers.items()}
         link.putrequest(method, path, skip_host="Host" in given)
         data = None if body is None else json.dumps(body).encode()
-        for name, word in {**given, **({} if data is None else {"Content-Length": str(len(data))})}.items():
+        for name, word in {
+            **given,
+            **({} if data is None else {"Content-Length": str(len(data))}),
+        }.items():
             link.putheader(name, word)
         link.endheaders(data)
         answer = link.getresponse()
@@ -68,8 +84,14 @@ class Page:
 
     def told(self, path, body=None):
         """What the page's own script is told."""
-        own = {"Authorization": f"Bearer {TOKEN}", "Origin": f"http://{self.host}", "Content_Type": "application/json"}
-        return json.loads(self.ask("GET" if body is None else "POST", f"/api/{path}", body, **own).text)
+        own = {
+            "Authorization": f"Bearer {TOKEN}",
+            "Origin": f"http://{self.host}",
+            "Content_Type": "application/json",
+        }
+        return json.loads(
+            self.ask("GET" if body is None else "POST", f"/api/{path}", body, **own).text
+        )
 
 
 def text_content(text):
@@ -80,7 +102,10 @@ def text_content(text):
 def store_with(path, objects):
     """A store of the full library, whose objects have these cells by DISPID and key."""
     coclass, face = (bytes.fromhex("443322116655887799aabbccddeeff0" + it) for it in "32")
-    table = {number: (coclass, {(face, dispid, key): value for (dispid, key), value in cells.items()}) for number, cells in objects.items()}
+    table = {
+        number: (coclass, {(face, dispid, key): value for (dispid, key), value in cells.items()})
+        for number, cells in objects.items()
+    }
     image = stores.table_image(max(table, default=0) + 1, table)
     with open(path, "wb") as file:
         file.write(stores.laid(stores.formatted(FULL_TEXT), 2, 0, FULL_TEXT, image, stores.BANK))
@@ -95,13 +120,20 @@ GRID = stores.Array(stores.I2, [(2, -1), (3, 5)], [struct.pack("<h", it) for it 
 CUBE = stores.Array(stores.I2, [(2, 0), (2, 0), (2, 7)], [struct.pack("<h", it) for it in range(8)])
 KEY = (long_value(5), text_content("k"), (stores.I2, struct.pack("<h", 1)))
 OBJECTS = {
-    1: {(1, ()): long_value(7), (2, ()): text_content(SCRIPT), (8, ()): GRID, (9, KEY): text_content("x")},
+    1: {
+        (1, ()): long_value(7),
+        (2, ()): text_content(SCRIPT),
+        (8, ()): GRID,
+        (9, KEY): text_content("x"),
+    },
     2: {(1, ()): long_value(9), (2, ()): text_content("long " * 1_000), (8, ()): CUBE},
     3: {(1, ()): long_value(-3), (2, ()): (stores.BSTR, struct.pack("<I", 3) + b"abc")},
 }
 
 
-BROWSER = python_with("selenium") if shutil.which("chromium") and shutil.which("chromedriver") else None
+BROWSER = (
+    python_with("selenium") if shutil.which("chromium") and shutil.which("chromedriver") else None
+)
 
 
 def needs_page(cases):
@@ -112,7 +144,9 @@ def needs_page(cases):
 
 def needs_browser(cases):
     """Leaves cases out where the page cannot be looked at."""
-    return needs_page(unittest.skipIf(BROWSER is None, "chromium, chromedriver or selenium is not there")(cases))
+    return needs_page(
+        unittest.skipIf(BROWSER is None, "chromium, chromedriver or selenium is not there")(cases)
+    )
 
 
 class Browsed(ClientCases):
@@ -120,7 +154,12 @@ class Browsed(ClientCases):
 
     @classmethod
     def setUpClass(cls):
-        cls.child = subprocess.Popen([BROWSER, f"{TESTS}/client/browser.py"], stdin=subprocess.PIPE, stdout=subprocess.PIPE, text=True)
+        cls.child = subprocess.Popen(
+            [BROWSER, f"{TESTS}/client/browser.py"],
+            stdin=subprocess.PIPE,
+            stdout=subprocess.PIPE,
+            text=True,
+        )
         cls.answer()
 
     @classmethod
@@ -144,10 +183,14 @@ class Browsed(ClientCases):
         return self.do("script", f"return {expression}")
 
     def seen(self, name, expression, wanted=True, within=SOON):
-        """What becomes so within a time, in seconds; gives how long it took. What is not there yet has no parts: the expression is tried again."""
+        """What becomes so within a time, in seconds; gives how long it took. What is not there yet
+        has no parts: the expression is tried again."""
         begun = time.monotonic()
         while True:
-            got = self.look(f"(() => {{ try {{ return {expression}; }} catch (it) {{ return String(it); }} }})()")
+            got = self.look(
+                f"(() => {{ try {{ return {expression}; }} catch (it) {{ return String(it); }} "
+                f"}})()"
+            )
             took = time.monotonic() - begun
             if got == wanted or took > within:
                 break
@@ -157,17 +200,22 @@ class Browsed(ClientCases):
 
     def press(self, selector, words=""):
         """Clicks the first element of a selector that has these words, once it is there."""
-        found = f"[...document.querySelectorAll({json.dumps(selector)})].find(it => it.textContent.includes({json.dumps(words)}))"
+        found = (
+            f"[...document.querySelectorAll({json.dumps(selector)})].find(it => "
+            f"it.textContent.includes({json.dumps(words)}))"
+        )
         self.seen(f"{selector} {words}", f"Boolean({found})")
         self.do("script", f"{found}.click()")
 
     def opened(self, page):
-        self.do("open", "about:blank")  # (with the same page before, an address with another part behind # loads nothing)
+        # (with the same page before, an address with another part behind # loads nothing)
+        self.do("open", "about:blank")
         self.do("open", page.address)
         self.seen("rows are shown", "document.querySelectorAll('.lines .row').length > 0")
 
     def clean(self, but="nothing"):
-        """Nothing was refused by the policy, and no script failed. The page is left, so that it asks no more."""
+        """Nothing was refused by the policy, and no script failed. The page is left, so that it
+        asks no more."""
         said = [it[:300] for it in self.do("log") if but not in it]
         self.same("the browser's log", said[:3], [])
         self.do("open", "about:blank")

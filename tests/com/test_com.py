@@ -1,4 +1,5 @@
-"""The COM bridge, clients/com: built by mingw-w64 and run under Wine, where scripts and a client in C reach the program by it over a socket.
+"""The COM bridge, clients/com: built by mingw-w64 and run under Wine, where scripts and a client in
+C reach the program by it over a socket.
 What is not installed leaves its tests out, each by its name."""
 import collections
 import os
@@ -11,8 +12,7 @@ import tempfile
 import time
 import unittest
 
-from running import PROGRAM, ROOT, Cases, rows_of, short
-from under_wine import (
+from tests.com.under_wine import (
     ASKED,
     COM,
     HUB,
@@ -33,6 +33,7 @@ from under_wine import (
     windows,
     write,
 )
+from tests.support.running import PROGRAM, ROOT, Cases, rows_of, short
 
 SPOILED_SECONDS = 5
 
@@ -40,18 +41,30 @@ SPOILED_SECONDS = 5
 @needs_wine
 class Building(UnderWine):
     def test_no_compiler_has_a_word_to_say(self):
-        for (status, said), what in zip(self.bridge.builds, ("the DLL", "the tests' programs", "the type library")):
+        for (status, said), what in zip(
+            self.bridge.builds, ("the DLL", "the tests' programs", "the type library")
+        ):
             self.tell(f"the build of {what}", (status, said) == (0, ""), said)
 
     @left_out("i686-w64-mingw32-gcc")
     def test_32_bits(self):
         os.makedirs(f"{self.bridge.room}/built32", exist_ok=True)
-        self.tell("the build of the DLL of 32 bits", built([f"{COM}/build.sh", f"{self.bridge.room}/built32", "32"]) == (0, ""))
+        self.tell(
+            "the build of the DLL of 32 bits",
+            built([f"{COM}/build.sh", f"{self.bridge.room}/built32", "32"]) == (0, ""),
+        )
 
     def test_no_library_but_the_systems(self):
         said = built(["x86_64-w64-mingw32-objdump", "-p", self.bridge.dll])[1]
         libraries = {line.split()[-1].lower() for line in said.splitlines() if "DLL Name:" in line}
-        own = {"kernel32.dll", "msvcrt.dll", "advapi32.dll", "ole32.dll", "oleaut32.dll", "ws2_32.dll"}
+        own = {
+            "kernel32.dll",
+            "msvcrt.dll",
+            "advapi32.dll",
+            "ole32.dll",
+            "oleaut32.dll",
+            "ws2_32.dll",
+        }
         self.tell("what the DLL is linked to", libraries and libraries <= own, libraries)
 
 
@@ -77,8 +90,12 @@ class Values(UnderWine):
                     continue  # of a type that a server refuses
                 seen[vt] += 1
                 if oaut.spell(value) != field:
-                    self.tell("the Python client spells a field as the bridge did", False, field.hex())
-        self.tell("fields of each type were sent", len(seen) >= 31 and sum(seen.values()) > 300, seen)
+                    self.tell(
+                        "the Python client spells a field as the bridge did", False, field.hex()
+                    )
+        self.tell(
+            "fields of each type were sent", len(seen) >= 31 and sum(seen.values()) > 300, seen
+        )
 
     def test_arrays_of_a_client_for_scripts(self):
         self.bridge.new_store()
@@ -91,8 +108,12 @@ class Values(UnderWine):
         self.runs("numbers.vbs")
 
     def test_collections(self):
-        """Without a type library, too: then TypeName is the coclass's name under Wine, which asks GetTypeInfo."""
-        for has_types, names in ((False, "Item Shelf"), *([(True, "DItem DStock")] if shutil.which("x86_64-w64-mingw32-widl") else [])):
+        """Without a type library, too: then TypeName is the coclass's name under Wine, which asks
+        GetTypeInfo."""
+        for has_types, names in (
+            (False, "Item Shelf"),
+            *([(True, "DItem DStock")] if shutil.which("x86_64-w64-mingw32-widl") else []),
+        ):
             self.bridge.new_store()
             self.bridge.set()
             if not has_types:
@@ -100,12 +121,15 @@ class Values(UnderWine):
             self.runs("collection.vbs", names)
 
     def test_what_is_told_of_each_code(self):
-        """The table of docs/guide/com.md: a server answers each code in turn, with an argument where it may name one."""
+        """The table of docs/guide/com.md: a server answers each code in turn, with an argument
+        where it may name one."""
         rows = refusals()
         self.bridge.new_store()
         self.bridge.set()
         self.server.looks = True
-        self.server.answers = [(code, 0 if name in OF_VALUES else 0xFFFFFFFF) for _, name, code, _ in rows]
+        self.server.answers = [
+            (code, 0 if name in OF_VALUES else 0xFFFFFFFF) for _, name, code, _ in rows
+        ]
         try:
             output = self.wine.run(*self.bridge.script("answers.vbs"), str(len(rows)))[1]
         finally:
@@ -120,7 +144,10 @@ class Values(UnderWine):
 
     def test_fields_of_another_implementation(self):
         rows = [row.split() for row in rows_of("variants.txt")]
-        output = self.wine.run(f"{self.bridge.room}/built/fields.exe", given="".join(f"{field}\n" for field, _ in rows).encode())[1]
+        output = self.wine.run(
+            f"{self.bridge.room}/built/fields.exe",
+            given="".join(f"{field}\n" for field, _ in rows).encode(),
+        )[1]
         for (field, wanted), got in zip(rows, output.splitlines()):
             self.tell(f"the field {field}", got == wanted, f"wanted {wanted}, got {got}")
         self.tell("how many fields", (len(rows), len(output.splitlines())) == (240, 240))
@@ -138,10 +165,13 @@ OF_VALUES = ("DISP_E_TYPEMISMATCH", "DISP_E_OVERFLOW", "DISP_E_BADVARTYPE")
 
 
 def refusals():
-    """The rows of the table of docs/guide/com.md: what Err.Number is, the code's name, the code, what Err.Description says of it."""
+    """The rows of the table of docs/guide/com.md: what Err.Number is, the code's name, the code,
+    what Err.Description says of it."""
     made = []
     for number, name, code, words in re.findall(
-        r"^\| (&H[0-9A-F]{8}|\d+) \| ([A-Z_]+) \| ([0-9A-F]{8}) \| (.*) \|$", text(f"{ROOT}/docs/guide/com.md"), re.MULTILINE
+        r"^\| (&H[0-9A-F]{8}|\d+) \| ([A-Z_]+) \| ([0-9A-F]{8}) \| (.*) \|$",
+        text(f"{ROOT}/docs/guide/com.md"),
+        re.MULTILINE,
     ):
         shown = int(number[2:], 16) - (1 << 32) if number.startswith("&H") else int(number)
         made.append((shown, name, int(code, 16), words.replace("**", "")))
@@ -204,7 +234,11 @@ class Hosts(UnderWine):
         for line in lines:
             if not line.startswith(("ok   ", "ready", "sent", "end")):
                 self.tell(f"hosts {name}: {line[5:]}", False, line)
-        self.tell(f"hosts {name}: all of its cases", (sum(it.startswith("ok   ") for it in lines), lines[-1:]) == (count, ["end"]), output)
+        self.tell(
+            f"hosts {name}: all of its cases",
+            (sum(it.startswith("ok   ") for it in lines), lines[-1:]) == (count, ["end"]),
+            output,
+        )
 
 
 @needs_wine
@@ -245,7 +279,11 @@ class Stops(UnderWine):
         for left in reversed(range(ASKED)):
             process = self.wine.start(*self.bridge.script(script), *words)
             until = time.monotonic() + TIMEOUT
-            while not self.server.has_waiting() and process.poll() is None and time.monotonic() < until:
+            while (
+                not self.server.has_waiting()
+                and process.poll() is None
+                and time.monotonic() < until
+            ):
                 time.sleep(0.05)
             # (Wine may have started nothing)
             if process.poll() is None or not left:
@@ -310,9 +348,17 @@ class Stops(UnderWine):
     def test_new_members_behind_a_reconnect(self):
         held = self.held("more.vbs")
         self.tell("it hangs up", self.server.ends(self.server.child))
-        more = "      [id(20)] SAFEARRAY(short) Later;\n    methods:\n      [id(21), propget] SAFEARRAY(short) More([in] long Number);\n"
-        more += "      [id(21), propput] void More([in] long Number, [in] SAFEARRAY(short) Value);\n"
-        library = write(f"{self.bridge.room}/more.idl", text(f"{TESTS}/demo.idl").replace("    methods:\n", more, 1))
+        more = (
+            "      [id(20)] SAFEARRAY(short) Later;\n    methods:\n"
+            "      [id(21), propget] SAFEARRAY(short) More([in] long Number);\n"
+        )
+        more += (
+            "      [id(21), propput] void More([in] long Number, [in] SAFEARRAY(short) Value);\n"
+        )
+        library = write(
+            f"{self.bridge.room}/more.idl",
+            text(f"{TESTS}/demo.idl").replace("    methods:\n", more, 1),
+        )
         self.bridge.new_store(library)
         self.bridge.add_item()
         self.each("more.vbs", self.finish(held))
@@ -326,33 +372,56 @@ class Stops(UnderWine):
             held = self.held("other.vbs") if script else self.held_program("hosts.exe", "keeps")
             self.tell("it hangs up", self.server.ends(self.server.child))
             moved = "[id(1)] long Other;\n      [id(17)] long Count;"
-            library = write(f"{self.bridge.room}/moved.idl", text(f"{TESTS}/demo.idl").replace("[id(1)] long Count;", moved, 1))
+            library = write(
+                f"{self.bridge.room}/moved.idl",
+                text(f"{TESTS}/demo.idl").replace("[id(1)] long Count;", moved, 1),
+            )
             self.bridge.new_store(library)
             self.bridge.add_item(Other=5)
             said = self.finish(held)
             if script:
                 self.each("other.vbs", said)
             else:
-                self.tell("hosts keeps: all of its cases", (said.count("ok   "), "BAD" in said, said.endswith("end\n")) == (8, False, True), said)
+                self.tell(
+                    "hosts keeps: all of its cases",
+                    (said.count("ok   "), "BAD" in said, said.endswith("end\n"))
+                    == (8, False, True),
+                    said,
+                )
             with oaut.serve(self.bridge.store, library, program=PROGRAM) as session:
                 item = session.object(1, "Item")
-                self.tell("what is there", (item.Other, item.Count) == (5, 43), (item.Other, item.Count))
+                self.tell(
+                    "what is there", (item.Other, item.Count) == (5, 43), (item.Other, item.Count)
+                )
 
     def test_spoiled_replies(self):
         self.bridge.set(Timeout=2000)
         self.server.looks, self.server.spoils = True, 300
         try:
             for script in (0, 1):
-                self.bridge.enter(f'[HKEY_CLASSES_ROOT\\CLSID\\{{{ITEM}}}\\Oaut]\n"Script"=dword:{script:08x}\n')
-                status, output = self.wine.run(f"{self.bridge.room}/built/client.exe", "spoiled", str(SPOILED_SECONDS))
-                self.tell(f"the client lives, Script {script}", (status, output.splitlines()[-1:]) == (0, ["end"]), (status, output))
+                self.bridge.enter(
+                    f'[HKEY_CLASSES_ROOT\\CLSID\\{{{ITEM}}}\\Oaut]\n"Script"=dword:{script:08x}\n'
+                )
+                status, output = self.wine.run(
+                    f"{self.bridge.room}/built/client.exe", "spoiled", str(SPOILED_SECONDS)
+                )
+                self.tell(
+                    f"the client lives, Script {script}",
+                    (status, output.splitlines()[-1:]) == (0, ["end"]),
+                    (status, output),
+                )
         finally:
             self.server.looks, self.server.spoils = False, 0
 
 
 def untyped(keys):
-    """What `reg query` prints of a class, without the type library that was written as it was registered."""
-    parts = [it for it in re.split(r"(?m)^(?=HKEY_)", keys) if not re.match(r"\S+\\(TypeLib|Version)\n", it)]
+    """What `reg query` prints of a class, without the type library that was written as it was
+    registered."""
+    parts = [
+        it
+        for it in re.split(r"(?m)^(?=HKEY_)", keys)
+        if not re.match(r"\S+\\(TypeLib|Version)\n", it)
+    ]
     return re.sub(r"(?m)^    Written .*\n", "", "".join(parts))
 
 
@@ -370,10 +439,18 @@ class Registration(UnderWine):
 
     def test_in_and_out(self):
         self.tell("regsvr32 enters the classes", self.bridge.registered == 0)
-        keys = ["Demo.Item", "Demo.Store", f"CLSID\\{{{ITEM}}}\\InprocServer32", f"CLSID\\{{{HUB}}}\\Oaut"]
+        keys = [
+            "Demo.Item",
+            "Demo.Store",
+            f"CLSID\\{{{ITEM}}}\\InprocServer32",
+            f"CLSID\\{{{HUB}}}\\Oaut",
+        ]
         self.tell("their keys", [it for it in keys if not self.has(it)] == [])
         self.server.close()
-        self.tell("regsvr32 takes them out, also without the server", self.bridge.register("Demo", "/u") == 0)
+        self.tell(
+            "regsvr32 takes them out, also without the server",
+            self.bridge.register("Demo", "/u") == 0,
+        )
         self.tell("nothing stays", [it for it in keys if self.has(it)] == [])
         self.tell("regsvr32 without the server", self.bridge.register("Demo") != 0)
         self.tell("enters nothing", [it for it in keys if self.has(it)] == [])
@@ -395,11 +472,16 @@ class Registration(UnderWine):
     @left_out("x86_64-w64-mingw32-widl")
     def test_the_type_library(self):
         """It is entered with its version and taken out again, and never over another program's."""
-        types, own = f"HKCR\\TypeLib\\{{{TYPES}}}", [f"HKCR\\CLSID\\{{{ITEM}}}\\{it}" for it in ("TypeLib", "Version")]
+        types, own = f"HKCR\\TypeLib\\{{{TYPES}}}", [
+            f"HKCR\\CLSID\\{{{ITEM}}}\\{it}" for it in ("TypeLib", "Version")
+        ]
         interface = f"HKCR\\Interface\\{{{TYPES[:-2]}02}}"
         file = f"{self.bridge.room}/built/Demo.tlb"
         self.are_there("it is entered", [f"{types}\\1.0", interface, *own])
-        later = write(f"{self.bridge.room}/later.idl", text(f"{TESTS}/demo.idl").replace("version(1.0)", "version(2.3)"))
+        later = write(
+            f"{self.bridge.room}/later.idl",
+            text(f"{TESTS}/demo.idl").replace("version(1.0)", "version(2.3)"),
+        )
         shutil.copy(file, f"{file}.kept")
         self.bridge.type_library(later, file)
         self.bridge.register("Demo")
@@ -407,23 +489,34 @@ class Registration(UnderWine):
         self.are_there("in the place of the earlier one", [f"{types}\\1.0"], False)
         shutil.move(f"{file}.kept", file)
         self.bridge.register("Demo", "/u")
-        self.are_there("it is taken out", [f"{types}\\2.3", interface, *own, "HKCR\\Demo.Item"], False)
-        self.bridge.enter(f'[HKEY_CLASSES_ROOT\\TypeLib\\{{{TYPES}}}\\1.0\\0\\win{self.bits}]\n@="C:\\\\other.tlb"\n')
+        self.are_there(
+            "it is taken out", [f"{types}\\2.3", interface, *own, "HKCR\\Demo.Item"], False
+        )
+        self.bridge.enter(
+            f"[HKEY_CLASSES_ROOT\\TypeLib\\{{{TYPES}}}\\1.0\\0\\win{self.bits}]\n"
+            '@="C:\\\\other.tlb"\n'
+        )
         self.tell("another program's is not taken", self.bridge.register("Demo") != 0)
         self.are_there("and stays", [f"{types}\\1.0\\0\\win{self.bits}"])
         self.are_there("and nothing is entered", ["HKCR\\Demo.Item", *own], False)
         self.bridge.enter(f"[-HKEY_CLASSES_ROOT\\TypeLib\\{{{TYPES}}}]\n")
 
     def test_for_one_user(self):
-        """In the user's own part of the registry, whoever that is; it is used from there, and taken out."""
+        """In the user's own part of the registry, whoever that is; it is used from there, and taken
+        out."""
         own = "HKCU\\Software\\Classes"
         keys = [f"{own}\\Demo.Item", f"{own}\\Demo.Store", f"{own}\\CLSID\\{{{ITEM}}}\\Oaut"]
         self.bridge.register("Demo", "/u")
         self.addCleanup(self.bridge.register, "user:Demo", "/u")
         self.tell("regsvr32 enters them for the user", self.bridge.register("user:Demo") == 0)
         self.are_there("their keys", keys)
-        self.are_there("are the user's", [it.replace(own, "HKLM\\Software\\Classes") for it in keys], False)
-        self.are_there("the same with /u leaves the user's", [keys[0] * (self.bridge.register("Demo", "/u") == 0)])
+        self.are_there(
+            "are the user's", [it.replace(own, "HKLM\\Software\\Classes") for it in keys], False
+        )
+        self.are_there(
+            "the same with /u leaves the user's",
+            [keys[0] * (self.bridge.register("Demo", "/u") == 0)],
+        )
         self.tell("regsvr32 takes them out", self.bridge.register("user:Demo", "/u") == 0)
         self.are_there("nothing stays", keys, False)
 
@@ -445,47 +538,113 @@ class Registration(UnderWine):
             "Demo@oaut+unix:///run/oaut.sock",
             f"Demo@{'h' * 300}:8765",
         ):
-            self.tell(f"/i:{short(words)}", self.wine.run("regsvr32", "/s", "/n", f"/i:{words}", self.bridge.dll)[0] != 0)
+            self.tell(
+                f"/i:{short(words)}",
+                self.wine.run("regsvr32", "/s", "/n", f"/i:{words}", self.bridge.dll)[0] != 0,
+            )
 
     def test_a_url(self):
         """It is entered as host and port are."""
-        for words in (f"OAUT://127.0.0.1:{self.server.port}", f"oaut://[127.0.0.1]:{self.server.port}"):
+        for words in (
+            f"OAUT://127.0.0.1:{self.server.port}",
+            f"oaut://[127.0.0.1]:{self.server.port}",
+        ):
             self.bridge.register("Demo", "/u")
-            self.tell(words, self.wine.run("regsvr32", "/s", "/n", f"/i:Demo@{words}", self.bridge.dll)[0] == 0)
+            self.tell(
+                words,
+                self.wine.run("regsvr32", "/s", "/n", f"/i:Demo@{words}", self.bridge.dll)[0] == 0,
+            )
             shown = self.wine.run("reg", "query", f"HKCR\\CLSID\\{{{ITEM}}}\\Oaut")[1]
             found = [re.search(rf"(?m)^ +{it} +REG_SZ +(\S+)", shown) for it in ("Host", "Port")]
-            self.tell(f"{words}: host and port", [it and it[1] for it in found] == ["127.0.0.1", str(self.server.port)], shown)
+            self.tell(
+                f"{words}: host and port",
+                [it and it[1] for it in found] == ["127.0.0.1", str(self.server.port)],
+                shown,
+            )
 
     def test_the_example(self):
         """The counter sheet, over a stop, registered by the file."""
         self.addCleanup(self.bridge.settle)
         self.bridge.new_store(f"{COM}/example/sheet.idl")
-        lines = text(f"{COM}/example/sheet.reg").replace("REGEDIT4", "").replace('"localhost"', '"127.0.0.1"').replace('"8765"', f'"{self.server.port}"')
-        self.bridge.enter(lines.replace("C:\\\\oaut\\\\oautcom.dll", windows(self.bridge.dll).replace("\\", "\\\\")))
+        lines = (
+            text(f"{COM}/example/sheet.reg")
+            .replace("REGEDIT4", "")
+            .replace('"localhost"', '"127.0.0.1"')
+            .replace('"8765"', f'"{self.server.port}"')
+        )
+        self.bridge.enter(
+            lines.replace(
+                "C:\\\\oaut\\\\oautcom.dll", windows(self.bridge.dll).replace("\\", "\\\\")
+            )
+        )
         for script in ("sheet.vbs", "prices.vbs"):
             write(f"{self.bridge.room}/{script}", text(f"{COM}/example/{script}"))
         said = []
         for row, number in (("Monday", 3), ("Tuesday", 4), ("Monday", 2)):
-            said.append(self.wine.run("cscript", "//nologo", "sheet.vbs", row, "tea", str(number))[1])
+            said.append(
+                self.wine.run("cscript", "//nologo", "sheet.vbs", row, "tea", str(number))[1]
+            )
             self.server.child.kill()
-        self.tell("sheet.vbs", said == ["Monday: 3\ntotal: 3\n", "Monday: 3\nTuesday: 4\ntotal: 7\n", "Monday: 5\nTuesday: 4\ntotal: 9\n"], said)
-        refused = "458: Desk.Sheet 1, Price: values of this type are not supported: the new value is declared CURRENCY and given as double; "
-        refused += "DECIMAL holds this number, and CCur makes a CURRENCY that is near it (DISP_E_BADVARTYPE, 0x80020008)\nrounded to 0.3333\n"
-        for marks, wanted in (("4", "Sheet 1: 9 marks, 2.25\n"), ("3", f"{refused}Sheet 1: 9 marks, 2.9997\n")):
+        self.tell(
+            "sheet.vbs",
+            said
+            == [
+                "Monday: 3\ntotal: 3\n",
+                "Monday: 3\nTuesday: 4\ntotal: 7\n",
+                "Monday: 5\nTuesday: 4\ntotal: 9\n",
+            ],
+            said,
+        )
+        refused = (
+            "458: Desk.Sheet 1, Price: values of this type are not supported: the new value is "
+            "declared CURRENCY and given as double; "
+        )
+        refused += (
+            "DECIMAL holds this number, and CCur makes a CURRENCY that is near it "
+            "(DISP_E_BADVARTYPE, 0x80020008)\nrounded to 0.3333\n"
+        )
+        for marks, wanted in (
+            ("4", "Sheet 1: 9 marks, 2.25\n"),
+            ("3", f"{refused}Sheet 1: 9 marks, 2.9997\n"),
+        ):
             output = self.wine.run("cscript", "//nologo", "prices.vbs", "tea", marks, "1")[1]
             self.tell(f"prices.vbs, {marks} marks cost 1", output == wanted, output)
+        self.bridge.register("Desk", "/u")
+
+    def test_what_the_file_of_the_example_enters(self):
+        self.addCleanup(self.bridge.settle)
+        self.bridge.new_store(f"{COM}/example/sheet.idl")
+        lines = (
+            text(f"{COM}/example/sheet.reg")
+            .replace("REGEDIT4", "")
+            .replace('"localhost"', '"127.0.0.1"')
+            .replace('"8765"', f'"{self.server.port}"')
+        )
+        self.bridge.enter(
+            lines.replace(
+                "C:\\\\oaut\\\\oautcom.dll", windows(self.bridge.dll).replace("\\", "\\\\")
+            )
+        )
         entered = [
             self.wine.run("reg", "query", f"HKCR\\CLSID\\{{{it}}}", "/s")[1]
-            for it in ("8d1e5f60-3c42-4b77-9a51-6272a3d0c103", hub_of("8d1e5f60-3c42-4b77-9a51-6272a3d0c102"))
+            for it in (
+                "8d1e5f60-3c42-4b77-9a51-6272a3d0c103",
+                hub_of("8d1e5f60-3c42-4b77-9a51-6272a3d0c102"),
+            )
         ]
         self.bridge.register("Desk", "/u")
         self.bridge.register("Desk")
         by_regsvr32 = [
             untyped(self.wine.run("reg", "query", f"HKCR\\CLSID\\{{{it}}}", "/s")[1])
-            for it in ("8d1e5f60-3c42-4b77-9a51-6272a3d0c103", hub_of("8d1e5f60-3c42-4b77-9a51-6272a3d0c102"))
+            for it in (
+                "8d1e5f60-3c42-4b77-9a51-6272a3d0c103",
+                hub_of("8d1e5f60-3c42-4b77-9a51-6272a3d0c102"),
+            )
         ]
         self.tell(
-            "the file enters what regsvr32 does, but for the type library that it writes", all(entered) and entered == by_regsvr32, (entered, by_regsvr32)
+            "the file enters what regsvr32 does, but for the type library that it writes",
+            all(entered) and entered == by_regsvr32,
+            (entered, by_regsvr32),
         )
         self.bridge.register("Desk", "/u")
 
@@ -496,22 +655,57 @@ FAULTS = {
     "scale and sign of a DECIMAL are exchanged": (
         "wire.c",
         [
-            ("&number->scale, 1);\n    write_bytes(to, &number->sign, 1);", "&number->sign, 1);\n    write_bytes(to, &number->scale, 1);"),
-            ("&number->scale, 1);\n    read_bytes(from, &number->sign, 1);", "&number->sign, 1);\n    read_bytes(from, &number->scale, 1);"),
+            (
+                "&number->scale, 1);\n    write_bytes(to, &number->sign, 1);",
+                "&number->sign, 1);\n    write_bytes(to, &number->scale, 1);",
+            ),
+            (
+                "&number->scale, 1);\n    read_bytes(from, &number->sign, 1);",
+                "&number->sign, 1);\n    read_bytes(from, &number->scale, 1);",
+            ),
         ],
         "client",
     ),
-    "the bounds of an array that was read are not turned": ("wire.c", [("bounds[dimensions - 1 - i]", "bounds[i]")], "client"),
-    "VT_BYREF is not followed": ("values.c", [("if (!(V_VT(value) & VT_BYREF))", "if (1)")], "client"),
-    "the argument at fault is not told": (
-        "objects.c",
-        [("    if (FAILED(code) && argument && call.argument < call.given->cArgs)\n", "    if (0)\n")],
+    "the bounds of an array that was read are not turned": (
+        "wire.c",
+        [("bounds[dimensions - 1 - i]", "bounds[i]")],
         "client",
     ),
-    "a put that was lost is sent again": ("connection.c", [("result == OAUT_E_LOST && way == AGAIN &&", "result == OAUT_E_LOST &&")], "lost"),
-    "half of the types is another server's": ("library.c", [("index ? HERE : AGAIN", "AGAIN")], "types"),
-    "the second interface's calls are the first one's": ("objects.c", [("    face->target.iid = *iid;\n", "    face->target.iid = GUID_NULL;\n")], "plain"),
-    "a started process has the connection": ("connection.c", [("WSA_FLAG_OVERLAPPED | WSA_FLAG_NO_HANDLE_INHERIT", "WSA_FLAG_OVERLAPPED")], "started"),
+    "VT_BYREF is not followed": (
+        "values.c",
+        [("if (!(V_VT(value) & VT_BYREF))", "if (1)")],
+        "client",
+    ),
+    "the argument at fault is not told": (
+        "objects.c",
+        [
+            (
+                "    if (FAILED(code) && argument && call.argument < call.given->cArgs)\n",
+                "    if (0)\n",
+            )
+        ],
+        "client",
+    ),
+    "a put that was lost is sent again": (
+        "connection.c",
+        [("result == OAUT_E_LOST && way == AGAIN &&", "result == OAUT_E_LOST &&")],
+        "lost",
+    ),
+    "half of the types is another server's": (
+        "library.c",
+        [("index ? HERE : AGAIN", "AGAIN")],
+        "types",
+    ),
+    "the second interface's calls are the first one's": (
+        "objects.c",
+        [("    face->target.iid = *iid;\n", "    face->target.iid = GUID_NULL;\n")],
+        "plain",
+    ),
+    "a started process has the connection": (
+        "connection.c",
+        [("WSA_FLAG_OVERLAPPED | WSA_FLAG_NO_HANDLE_INHERIT", "WSA_FLAG_OVERLAPPED")],
+        "started",
+    ),
 }
 
 
@@ -541,9 +735,17 @@ class PlantedFaults(UnderWine):
                 self.assertEqual(said[0], 0, said)
                 self.bridge.set(Script=int(finder in ("lost", "types")), Idle=0)
                 dll = windows(f"{room.name}/oautcom.dll").replace("\\", "\\\\")
-                self.bridge.enter("".join(f'[HKEY_CLASSES_ROOT\\CLSID\\{{{it}}}\\InprocServer32]\n@="{dll}"\n\n' for it in (ITEM, HUB)))
-                # (some show only where the connection's end arrives before the next request is sent, which a busy machine may miss)
-                self.assertTrue(any(self.bad(getattr(self, finder)()) for _ in range(3)), "it is not found")
+                self.bridge.enter(
+                    "".join(
+                        f'[HKEY_CLASSES_ROOT\\CLSID\\{{{it}}}\\InprocServer32]\n@="{dll}"\n\n'
+                        for it in (ITEM, HUB)
+                    )
+                )
+                # (some show only where the connection's end arrives before the next request is
+                # sent, which a busy machine may miss)
+                self.assertTrue(
+                    any(self.bad(getattr(self, finder)()) for _ in range(3)), "it is not found"
+                )
 
 
 def load_tests(loader, tests, pattern):

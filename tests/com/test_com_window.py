@@ -1,13 +1,13 @@
-"""The window of oautreg.exe, used by messages as a person does by the mouse, under Wine before a display without a screen. What is not installed leaves its
-tests out, each by its name."""
+"""The window of oautreg.exe, used by messages as a person does by the mouse, under Wine before a
+display without a screen. What is not installed leaves its tests out, each by its name."""
 import os
 import subprocess
 import tempfile
 import time
 import unittest
 
-from running import goes_on
-from under_wine import NOT_STARTED, TIMEOUT, UnderWine, left_out, needs_wine, plain, write
+from tests.com.under_wine import NOT_STARTED, TIMEOUT, UnderWine, left_out, needs_wine, plain, write
+from tests.support.running import goes_on
 
 # the parts of the window, as clients/com/window.h numbers them
 NAME, ADDRESS, TEXTS, ALL_USERS, TEST, ADD, REPAIR, REMOVE = 101, 102, 104, 105, 106, 107, 109, 110
@@ -40,13 +40,24 @@ class Window(UnderWine):
         self.bridge.set()
 
     def start(self, *words):
-        """Starts a program on a desktop of its own: Wine's first one has begun without a display."""
+        """Starts a program on a desktop of its own: Wine's first one has begun without a
+        display."""
         said = tempfile.TemporaryFile()
         quiet = {"stdin": subprocess.DEVNULL, "stdout": said, "stderr": subprocess.DEVNULL}
-        return subprocess.Popen(["wine", "explorer", "/desktop=tests,800x600", *words], env=self.env, cwd=self.bridge.room, **quiet), said, words
+        return (
+            subprocess.Popen(
+                ["wine", "explorer", "/desktop=tests,800x600", *words],
+                env=self.env,
+                cwd=self.bridge.room,
+                **quiet,
+            ),
+            said,
+            words,
+        )
 
     def is_there(self, started):
-        """The same, or another try where Wine has started nothing, as now and then on a busy machine."""
+        """The same, or another try where Wine has started nothing, as now and then on a busy
+        machine."""
         process, said, words = started
         if process.poll() is None or not os.pread(said.fileno(), 100, 0).startswith(NOT_STARTED):
             return started
@@ -81,11 +92,22 @@ class Window(UnderWine):
         return said.splitlines()
 
     def same(self, what, got, wanted):
-        self.tell(what, got == wanted, f"wanted {wanted!r}, got {got!r}; the last programs behind the server: {[*self.server.statuses]}")
+        self.tell(
+            what,
+            got == wanted,
+            f"wanted {wanted!r}, got {got!r}; the last programs behind the server: "
+            f"{[*self.server.statuses]}",
+        )
 
     def test_a_server_is_tested_registered_repaired_and_removed(self):
-        refused = "oautcom: the server was not reached; nothing was sent; 127.0.0.1:1: connection refused: nothing listens there, 10061 "
-        done, name = "Desk is {} for programs of 64 bits", f"Desk, {self.address}, all users, 3 classes for 64 bits"
+        refused = (
+            "oautcom: the server was not reached; nothing was sent; 127.0.0.1:1: connection "
+            "refused: nothing listens there, 10061 "
+        )
+        done, name = (
+            "Desk is {} for programs of 64 bits",
+            f"Desk, {self.address}, all users, 3 classes for 64 bits",
+        )
         got = self.uses(
             *("list", f"field={ADDRESS}"),
             *(f"press={ADD}", "said"),
@@ -98,10 +120,21 @@ class Window(UnderWine):
             "close",
         )
         wanted = [
-            *("localhost:8765", "give a name: letters, digits and _", "choose a line of what is registered first"),
+            *(
+                "localhost:8765",
+                "give a name: letters, digits and _",
+                "choose a line of what is registered first",
+            ),
             f"{refused}(RPC_S_SERVER_UNAVAILABLE, 0x800706BA)",
             *(f"{self.address} has the coclass {it}" for it in ("Item", "Shelf")),
-            *(done.format("registered"), name, "Desk", done.format("registered"), done.format("removed"), "end"),
+            *(
+                done.format("registered"),
+                name,
+                "Desk",
+                done.format("registered"),
+                done.format("removed"),
+                "end",
+            ),
         ]
         self.same("what it shows", got, wanted)
         self.tell("the name is gone", not self.bridge.has("HKCR\\Desk.Item"))
@@ -114,27 +147,58 @@ class Window(UnderWine):
         self.same("what it shows", got, [f"{line}, damaged: repair it", line, self.address, "end"])
 
     def test_a_window_that_is_closed_waits_for_its_command(self):
-        """Else a registration would be left half entered, or not at all without a word. The server replies once there is a file."""
+        """Else a registration would be left half entered, or not at all without a word. The server
+        replies once there is a file."""
         go, words = tempfile.mktemp(dir=self.bridge.room), self.server.words
-        self.server.words = ["sh", "-c", f'while [ ! -e "{go}" ]; do sleep 0.1; done; exec "$@"', "sh", *words]
-        adds = (f"set={NAME}=Desk", f"set={ADDRESS}={self.address}", f"check={ALL_USERS}", f"start={ADD}")
+        self.server.words = [
+            "sh",
+            "-c",
+            f'while [ ! -e "{go}" ]; do sleep 0.1; done; exec "$@"',
+            "sh",
+            *words,
+        ]
+        adds = (
+            f"set={NAME}=Desk",
+            f"set={ADDRESS}={self.address}",
+            f"check={ALL_USERS}",
+            f"start={ADD}",
+        )
         try:
-            got = self.uses(*adds, "closing", "said", "closing", "said", f"file={os.path.basename(go)}")
+            got = self.uses(
+                *adds, "closing", "said", "closing", "said", f"file={os.path.basename(go)}"
+            )
         finally:
             self.server.words = words
             write(go, "")
         line = "this window closes when that has ended"
         self.same("what it shows", got, [line, line, "end"])
         names = ["Desk.Item", "Desk.Shelf", "Desk.Store"]
-        self.same("what is registered", [it for it in names if self.bridge.has(f"HKCR\\{it}")], names)
+        self.same(
+            "what is registered", [it for it in names if self.bridge.has(f"HKCR\\{it}")], names
+        )
         self.bridge.register("Desk", "/u")
         self.same("it is removed", [it for it in names if self.bridge.has(f"HKCR\\{it}")], [])
 
     def test_a_failure_of_the_registration_is_shown(self):
         self.bridge.register("Demo")
-        got = self.uses(f"set={NAME}=Other", f"set={ADDRESS}={self.address}", f"check={ALL_USERS}", f"check={TEXTS}", f"press={ADD}", "said", "close")
-        self.tell("it names the first one", len(got) == 2 and "its class is registered as Demo.Store" in got[0], (got, [*self.server.statuses]))
-        self.tell("the first one stays", self.bridge.has("HKCR\\Demo.Item") and not self.bridge.has("HKCR\\Other.Item"))
+        got = self.uses(
+            f"set={NAME}=Other",
+            f"set={ADDRESS}={self.address}",
+            f"check={ALL_USERS}",
+            f"check={TEXTS}",
+            f"press={ADD}",
+            "said",
+            "close",
+        )
+        self.tell(
+            "it names the first one",
+            len(got) == 2 and "its class is registered as Demo.Store" in got[0],
+            (got, [*self.server.statuses]),
+        )
+        self.tell(
+            "the first one stays",
+            self.bridge.has("HKCR\\Demo.Item") and not self.bridge.has("HKCR\\Other.Item"),
+        )
 
 
 if __name__ == "__main__":

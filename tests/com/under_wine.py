@@ -1,5 +1,6 @@
-"""The COM bridge, clients/com, as its tests have it: built by mingw-w64, registered under Wine, before a server behind a socket; and copies of its
-sources with a planted fault. What is not installed leaves its tests out, each by its name."""
+"""The COM bridge, clients/com, as its tests have it: built by mingw-w64, registered under Wine,
+before a server behind a socket; and copies of its sources with a planted fault. What is not
+installed leaves its tests out, each by its name."""
 import atexit
 import collections
 import concurrent.futures
@@ -23,8 +24,8 @@ import time
 import unittest
 import uuid
 
-import wire  # which finds the client's module
-from running import PROGRAM, ROOT, Cases, goes_on, short
+from tests.support import wire  # which finds the client's module
+from tests.support.running import PROGRAM, ROOT, Cases, goes_on, short
 
 oaut = wire.oaut
 COM = f"{ROOT}/clients/com"
@@ -76,7 +77,9 @@ def write(path, content):
 def built(words, **how):
     """What a build says, and its status."""
     goes_on()
-    done = subprocess.run(words, stdout=subprocess.PIPE, stderr=subprocess.STDOUT, timeout=TIMEOUT, **how)
+    done = subprocess.run(
+        words, stdout=subprocess.PIPE, stderr=subprocess.STDOUT, timeout=TIMEOUT, **how
+    )
     goes_on()
     return done.returncode, done.stdout.decode("utf-8", "replace")
 
@@ -85,8 +88,9 @@ def built(words, **how):
 
 
 def reserved(port=0):
-    """A socket with a port of this machine. As long as it is there the system gives the port to nobody who names none, and whoever dials it is refused; a
-    server that names the port may listen."""
+    """A socket with a port of this machine. As long as it is there the system gives the port to
+    nobody who names none, and whoever dials it is refused; a server that names the port may
+    listen."""
     made = socket.socket()
     made.setsockopt(socket.SOL_SOCKET, socket.SO_REUSEADDR, 1)
     made.bind(("127.0.0.1", port))
@@ -94,9 +98,11 @@ def reserved(port=0):
 
 
 class Server:
-    """Accepts on a port of its own and starts the program for each client in turn. Its words may change: the next client's program has them. Where
-    records are looked at, they go through this process, which keeps the requests' bodies, spoils some replies of a thousand, ends a session behind so
-    many requests for types, once, and itself answers a put of a number, where it has answers, and a LIST, where it has the bytes of objects."""
+    """Accepts on a port of its own and starts the program for each client in turn. Its words may
+    change: the next client's program has them. Where records are looked at, they go through this
+    process, which keeps the requests' bodies, spoils some replies of a thousand, ends a session
+    behind so many requests for types, once, and itself answers a put of a number, where it has
+    answers, and a LIST, where it has the bytes of objects."""
 
     def __init__(self):
         self.words, self.looks, self.spoils, self.requests = None, False, 0, []
@@ -120,7 +126,8 @@ class Server:
 
     @property
     def child(self):
-        """The program of the last client, which it may have served before this process has noted it."""
+        """The program of the last client, which it may have served before this process has noted
+        it."""
         self.is_noted.wait(TIMEOUT)
         return self.begun
 
@@ -151,21 +158,31 @@ class Server:
                 except OSError as error:  # a program that cannot be started is no end of the server
                     self.statuses.append(repr(error))
                 else:
-                    self.statuses.append((self.child.returncode, os.pread(self.said.fileno(), 1_000, begun)))
+                    self.statuses.append(
+                        (self.child.returncode, os.pread(self.said.fileno(), 1_000, begun))
+                    )
 
     def look(self, client):
         child = self.begin(subprocess.PIPE, subprocess.PIPE)
         back = threading.Thread(target=self.carry_back, args=(child.stdout, client), daemon=True)
         back.start()
-        with client.makefile("rb") as asked, contextlib.suppress(OSError):  # a client that resets its connection, or a program that has ended
+        # a client that resets its connection, or a program that has ended
+        with client.makefile("rb") as asked, contextlib.suppress(OSError):
             while (body := record(asked)) is not None:
                 self.requests.append(body)
                 if self.answers and body[4] == oaut.INVOKE and body[52] & 4:
                     code, index = self.answers[struct.unpack_from("<i", body, 100)[0]]
-                    client.sendall(struct.pack("<I", 16) + body[:4] + struct.pack("<III", code, index, 0))
+                    client.sendall(
+                        struct.pack("<I", 16) + body[:4] + struct.pack("<III", code, index, 0)
+                    )
                     continue
                 if self.listed and body[4] == oaut.LIST:
-                    client.sendall(struct.pack("<I", 16 + len(self.listed)) + body[:4] + struct.pack("<III", 0, 0xFFFFFFFF, 0) + self.listed)
+                    client.sendall(
+                        struct.pack("<I", 16 + len(self.listed))
+                        + body[:4]
+                        + struct.pack("<III", 0, 0xFFFFFFFF, 0)
+                        + self.listed
+                    )
                     continue
                 if self.types_left and body[4] == oaut.TYPEINFO:
                     self.types_left -= 1
@@ -183,7 +200,9 @@ class Server:
             while (body := record(replies)) is not None:
                 whole = self.spoiled(struct.pack("<I", len(body)) + body)
                 client.sendall(whole, socket.MSG_MORE if self.is_last else 0)
-                if self.is_last:  # it comes with the connection's end, so that the client sees that before it asks again
+                # it comes with the connection's end, so that the client sees that before it asks
+                # again
+                if self.is_last:
                     self.is_last = False
                     break
         except OSError:
@@ -200,7 +219,9 @@ class Server:
         for _ in range(self.chance.choice((1, 1, 2, 4))):
             # the record's length seldom: what is too long is waited for
             place = self.chance.randrange(4 if self.chance.random() < 0.97 else 0, len(whole))
-            changed[place] = self.chance.choice((0, 1, 2, 0x20, 0x7F, 0x80, 0xFF, self.chance.randrange(256)))
+            changed[place] = self.chance.choice(
+                (0, 1, 2, 0x20, 0x7F, 0x80, 0xFF, self.chance.randrange(256))
+            )
         return bytes(changed)
 
     def has_waiting(self):
@@ -208,13 +229,19 @@ class Server:
         with open("/proc/net/tcp") as file:
             rows = [it.split() for it in file]
         # (of a socket that listens, what is to be received are connections)
-        return any(it[1] == f"0100007F:{self.port:04X}" and it[3] == "0A" and int(it[4].split(":")[1], 16) for it in rows)
+        return any(
+            it[1] == f"0100007F:{self.port:04X}" and it[3] == "0A" and int(it[4].split(":")[1], 16)
+            for it in rows
+        )
 
     def kill_at_request(self, child, seconds=TIMEOUT / 2):
         """Kills a client's program, which is stopped, once bytes of that client wait unread."""
         until = time.monotonic() + seconds
         with contextlib.suppress(OSError, ValueError):  # a client that is there no more
-            while time.monotonic() < until and not struct.unpack("i", fcntl.ioctl(self.client, termios.FIONREAD, bytes(4)))[0]:
+            while (
+                time.monotonic() < until
+                and not struct.unpack("i", fcntl.ioctl(self.client, termios.FIONREAD, bytes(4)))[0]
+            ):
                 time.sleep(0.05)
         child.kill()
 
@@ -271,7 +298,8 @@ def record(stream):
 
 
 class Wine:
-    """A folder of Wine's and a Wine server of their own. Windows' programs are those of 64 bits, or of 32. A Windows of 32 bits is the architecture win32."""
+    """A folder of Wine's and a Wine server of their own. Windows' programs are those of 64 bits, or
+    of 32. A Windows of 32 bits is the architecture win32."""
 
     def __init__(self, room, bits=64, arch="win64"):
         self.room, self.bits, self.arch = room, bits, arch
@@ -285,17 +313,34 @@ class Wine:
         }
         self.env.pop("DISPLAY", None)
         os.mkdir(f"{room}/wine")
-        quiet = {"env": self.env, "stdin": subprocess.DEVNULL, "stdout": subprocess.DEVNULL, "stderr": subprocess.DEVNULL}
-        # without one of our own each command waits until Wine's last background process has closed its pipe
-        server = next(it for it in ("/usr/lib/wine/wineserver64", shutil.which("wineserver") or "wineserver") if os.path.exists(it) or "/" not in it)
+        quiet = {
+            "env": self.env,
+            "stdin": subprocess.DEVNULL,
+            "stdout": subprocess.DEVNULL,
+            "stderr": subprocess.DEVNULL,
+        }
+        # without one of our own each command waits until Wine's last background process has closed
+        # its pipe
+        server = next(
+            it
+            for it in ("/usr/lib/wine/wineserver64", shutil.which("wineserver") or "wineserver")
+            if os.path.exists(it) or "/" not in it
+        )
         own = os.stat(f"{room}/wine")
         # (Debian's Wine has another folder at each start, which it names in a file of the prefix)
-        places = (f"/tmp/.wine-{os.getuid()}/server-{own.st_dev:x}-{own.st_ino:x}/socket", f"{room}/wine/wineserver")
+        places = (
+            f"/tmp/.wine-{os.getuid()}/server-{own.st_dev:x}-{own.st_ino:x}/socket",
+            f"{room}/wine/wineserver",
+        )
         before = {it: seen_at(it) for it in places}
         self.server = subprocess.Popen([server, "-f", "-p"], **quiet)
         # (a command that finds none starts one, and that goes by itself)
         until = time.monotonic() + 60
-        while all(seen_at(it) in (None, before[it]) for it in places) and self.server.poll() is None and time.monotonic() < until:
+        while (
+            all(seen_at(it) in (None, before[it]) for it in places)
+            and self.server.poll() is None
+            and time.monotonic() < until
+        ):
             time.sleep(0.05)
         goes_on()
         for _ in range(ASKED):  # (it may lose its server, too)
@@ -303,40 +348,70 @@ class Wine:
             goes_on()
             if os.path.exists(f"{room}/wine/drive_c/windows/system32/regsvr32.exe"):
                 break
-        # (a program with windows starts the desktop, which takes 14 s without a display, and goes soon after the last one of them: this one stays)
+        # (a program with windows starts the desktop, which takes 14 s without a display, and goes
+        # soon after the last one of them: this one stays)
         self.desktop = subprocess.Popen(self.words("explorer"), **quiet)
 
     def words(self, program, *words):
-        """A command line. A program of Windows is named without a folder. With wine32 beside it, Debian's `wine` starts one of 32 bits, so `wine64` is asked
-        for those of 64."""
+        """A command line. A program of Windows is named without a folder. With wine32 beside it,
+        Debian's `wine` starts one of 32 bits, so `wine64` is asked for those of 64."""
         if self.bits == 32 and self.arch == "win64" and re.fullmatch(r"\w+", program):
             program = f"C:\\windows\\syswow64\\{program}.exe"
         return [WINE64 if self.bits == 64 and os.path.isdir(WINE32) else "wine", program, *words]
 
     def start(self, *words, errors=subprocess.DEVNULL):
         goes_on()
-        return subprocess.Popen(self.words(*words), env=self.env, cwd=self.room, stdin=subprocess.DEVNULL, stdout=subprocess.PIPE, stderr=errors)
+        return subprocess.Popen(
+            self.words(*words),
+            env=self.env,
+            cwd=self.room,
+            stdin=subprocess.DEVNULL,
+            stdout=subprocess.PIPE,
+            stderr=errors,
+        )
 
     def run(self, *words, given=None):
-        """The status and the output; where it takes too long, None and what came. On a busy machine Wine now and then starts nothing of what is asked: it is
-        asked again, as where Wine lost its server before the program said a word."""
+        """The status and the output; where it takes too long, None and what came. On a busy machine
+        Wine now and then starts nothing of what is asked: it is asked again, as where Wine lost its
+        server before the program said a word."""
         for _ in range(ASKED):
             goes_on()
             try:
-                done = subprocess.run(self.words(*words), env=self.env, cwd=self.room, input=given or b"", capture_output=True, timeout=TIMEOUT)
+                done = subprocess.run(
+                    self.words(*words),
+                    env=self.env,
+                    cwd=self.room,
+                    input=given or b"",
+                    capture_output=True,
+                    timeout=TIMEOUT,
+                )
             except subprocess.TimeoutExpired as late:
                 return None, plain(late.stdout or b"")
-            if not done.stdout.startswith(NOT_STARTED) and (done.stdout or done.returncode == 0 or LOST not in done.stderr):
+            if not done.stdout.startswith(NOT_STARTED) and (
+                done.stdout or done.returncode == 0 or LOST not in done.stderr
+            ):
                 break
         return done.returncode, plain(done.stdout)
 
     def said(self, *words):
-        """The status, and what comes on standard error, without what Wine itself says there. A program of ours that fails says why. One that fails without a
-        word was ended by Wine, which now and then loses its server on a busy machine: it is asked again."""
+        """The status, and what comes on standard error, without what Wine itself says there. A
+        program of ours that fails says why. One that fails without a word was ended by Wine, which
+        now and then loses its server on a busy machine: it is asked again."""
         for _ in range(ASKED):
             goes_on()
-            done = subprocess.run(self.words(*words), env=self.env, cwd=self.room, stdin=subprocess.DEVNULL, capture_output=True, timeout=TIMEOUT)
-            said = "".join(f"{it}\n" for it in plain(done.stderr).splitlines() if "wine32" not in it and not it.startswith(LOST.decode()))
+            done = subprocess.run(
+                self.words(*words),
+                env=self.env,
+                cwd=self.room,
+                stdin=subprocess.DEVNULL,
+                capture_output=True,
+                timeout=TIMEOUT,
+            )
+            said = "".join(
+                f"{it}\n"
+                for it in plain(done.stderr).splitlines()
+                if "wine32" not in it and not it.startswith(LOST.decode())
+            )
             if not done.stdout.startswith(NOT_STARTED) and (done.returncode == 0 or said):
                 break
         return done.returncode, said
@@ -365,15 +440,29 @@ def windows(path):
 
 
 class Bridge:
-    """The bridge as it is built and registered, before a server on a store of tests/demo.idl. Both are of 64 bits, or of 32."""
+    """The bridge as it is built and registered, before a server on a store of tests/demo.idl. Both
+    are of 64 bits, or of 32."""
 
     def __init__(self, bits=64):
-        self.room, self.bits, self.stores = tempfile.mkdtemp(prefix="oaut-com-"), bits, itertools.count(1)
+        self.room, self.bits, self.stores = (
+            tempfile.mkdtemp(prefix="oaut-com-"),
+            bits,
+            itertools.count(1),
+        )
         self.wine = self.server = None
         try:
             os.mkdir(f"{self.room}/built")
-            tests = ["env", f"CC={'x86_64' if bits == 64 else 'i686'}-w64-mingw32-gcc", f"{TESTS}/build.sh", "windows", f"{self.room}/built"]
-            self.builds = [built([f"{COM}/build.sh", f"{self.room}/built", str(bits)]), built(tests)]
+            tests = [
+                "env",
+                f"CC={'x86_64' if bits == 64 else 'i686'}-w64-mingw32-gcc",
+                f"{TESTS}/build.sh",
+                "windows",
+                f"{self.room}/built",
+            ]
+            self.builds = [
+                built([f"{COM}/build.sh", f"{self.room}/built", str(bits)]),
+                built(tests),
+            ]
             self.dll = f"{self.room}/built/oautcom.dll"
             self.library = f"{TESTS}/demo.idl"
             self.server = Server()
@@ -388,13 +477,27 @@ class Bridge:
 
     def type_library(self, library, to):
         """Makes one for programs of the bridge's bits: those of 32 bits find none of 64."""
-        return built(["env", f"WIDL={'x86_64' if self.bits == 64 else 'i686'}-w64-mingw32-widl", f"{COM}/typelib.sh", PROGRAM, library, to])
+        return built(
+            [
+                "env",
+                f"WIDL={'x86_64' if self.bits == 64 else 'i686'}-w64-mingw32-widl",
+                f"{COM}/typelib.sh",
+                PROGRAM,
+                library,
+                to,
+            ]
+        )
 
     def new_store(self, library=None):
         """A store of a library, which the next client finds."""
         self.library = library or f"{TESTS}/demo.idl"
         self.store = f"{self.room}/{next(self.stores)}.store"
-        subprocess.run([PROGRAM, "format", self.store, self.library], check=True, stdout=subprocess.DEVNULL, timeout=TIMEOUT)
+        subprocess.run(
+            [PROGRAM, "format", self.store, self.library],
+            check=True,
+            stdout=subprocess.DEVNULL,
+            timeout=TIMEOUT,
+        )
         self.server.words = [PROGRAM, "serve", self.store, self.library]
 
     def add_item(self, **values):
@@ -405,10 +508,13 @@ class Bridge:
                 setattr(item, name, value)
 
     def register(self, name, *more):
-        return self.wine.run("regsvr32", "/s", "/n", *more, f"/i:{name}@127.0.0.1:{self.server.port}", self.dll)[0]
+        return self.wine.run(
+            "regsvr32", "/s", "/n", *more, f"/i:{name}@127.0.0.1:{self.server.port}", self.dll
+        )[0]
 
     def settle(self):
-        """Has registered what the bridge itself registers, and nothing that a test has left which Wine ended, or which failed."""
+        """Has registered what the bridge itself registers, and nothing that a test has left which
+        Wine ended, or which failed."""
         tool = f"{self.room}/built/oautreg.exe"
         lines = self.wine.run(tool, "list")[1].splitlines()
         own = [it for it in lines if it.startswith("Demo.") and "  all users, " in it]
@@ -431,11 +537,17 @@ class Bridge:
         """Numbers of the class and of the hub, beside what is registered anew."""
         self.register("Demo")
         values = "".join(f'"{name}"=dword:{number:08x}\n' for name, number in numbers.items())
-        self.enter("".join(f"[HKEY_CLASSES_ROOT\\CLSID\\{{{it}}}\\Oaut]\n{values}\n" for it in (ITEM, HUB)))
+        self.enter(
+            "".join(f"[HKEY_CLASSES_ROOT\\CLSID\\{{{it}}}\\Oaut]\n{values}\n" for it in (ITEM, HUB))
+        )
 
     def without_types(self):
         """Takes the type library's file out of the class and of the hub."""
-        self.enter("".join(f'[HKEY_CLASSES_ROOT\\CLSID\\{{{it}}}\\Oaut]\n"TypeLib"=-\n\n' for it in (ITEM, HUB)))
+        self.enter(
+            "".join(
+                f'[HKEY_CLASSES_ROOT\\CLSID\\{{{it}}}\\Oaut]\n"TypeLib"=-\n\n' for it in (ITEM, HUB)
+            )
+        )
 
     def script(self, name):
         """A script of the tests, behind what all of them share."""
@@ -466,12 +578,22 @@ def anew():
 
 class Told(Cases):
     def each(self, name, output):
-        """The cases that a script or a program of the tests tells, of those that stand in its text. Wine's cscript has the status 0 also where a
-        script breaks off, and behind On Error Resume Next it says nothing of a line with an error."""
+        """The cases that a script or a program of the tests tells, of those that stand in its text.
+        Wine's cscript has the status 0 also where a script breaks off, and behind On Error Resume
+        Next it says nothing of a line with an error."""
         lines = (output or "").splitlines()
         told = {line[5:] for line in lines if line.startswith("ok   ")}
-        for case in {*re.findall(r'\b(?:Same|Refused|Tells|same|refused)[ (]"([^"]+)"', text(f"{TESTS}/{name}")), *told}:
-            self.tell(f"{name}: {case}", case in told, [line for line in lines if line.startswith(f"BAD  {case}")])
+        for case in {
+            *re.findall(
+                r'\b(?:Same|Refused|Tells|same|refused)[ (]"([^"]+)"', text(f"{TESTS}/{name}")
+            ),
+            *told,
+        }:
+            self.tell(
+                f"{name}: {case}",
+                case in told,
+                [line for line in lines if line.startswith(f"BAD  {case}")],
+            )
         for line in lines:
             if line.startswith("BAD  "):
                 self.tell(f"{name}: {line[5:]}", False, line)
@@ -488,7 +610,8 @@ class UnderWine(Told):
 
     @classmethod
     def setUpClass(cls):
-        if bridge(cls.bits).wine.server.poll() is not None:  # (its Wine has ended, so nothing would be started any more)
+        # (its Wine has ended, so nothing would be started any more)
+        if bridge(cls.bits).wine.server.poll() is not None:
             anew()
         cls.bridge = bridge(cls.bits)
         cls.bridge.settle()
@@ -501,8 +624,8 @@ class UnderWine(Told):
         self.each(script, self.wine.run(*self.bridge.script(script), *words)[1])
 
     def speaks(self, *words):
-        """A process of Windows, and its first line. On a busy machine Wine now and then starts nothing of what is asked, or loses its server before the first
-        word: it is asked again."""
+        """A process of Windows, and its first line. On a busy machine Wine now and then starts
+        nothing of what is asked, or loses its server before the first word: it is asked again."""
         for left in reversed(range(ASKED)):
             process = self.wine.start(*words)
             told = process.stdout.readline()
@@ -511,7 +634,8 @@ class UnderWine(Told):
             process.communicate(timeout=TIMEOUT)
 
     def held(self, script, *words):
-        """A script that waits for a file, up to its line "ready": the process, the file, what it has told."""
+        """A script that waits for a file, up to its line "ready": the process, the file, what it
+        has told."""
         return self.ready(lambda go: [*self.bridge.script(script), go, *words])
 
     def held_program(self, program, *words):
@@ -547,8 +671,9 @@ class UnderWine(Told):
             self.server.looks = False
 
     def started(self, seconds=4):
-        """What a client tells that ends before the process that it has started, and whether its connection ends with it. That process goes on until the file is
-        there, so that a connection which it has is there as long."""
+        """What a client tells that ends before the process that it has started, and whether its
+        connection ends with it. That process goes on until the file is there, so that a connection
+        which it has is there as long."""
         go = tempfile.mktemp(dir=self.bridge.room)
         client, told = self.speaks(f"{self.bridge.room}/built/client.exe", "starts", windows(go))
         while b"end" not in told and (line := client.stdout.readline()):
@@ -559,7 +684,8 @@ class UnderWine(Told):
         return f"{'ok   ' if ended else 'BAD  '}its server ends\n{plain(told)}"
 
     def lost(self):
-        """What a script tells whose server is killed while it has a put: once that waits unread in front of it."""
+        """What a script tells whose server is killed while it has a put: once that waits unread in
+        front of it."""
         held = self.held("lost.vbs")
         child = self.server.child
         child.send_signal(signal.SIGSTOP)
@@ -584,7 +710,8 @@ def planted(room, file, edits):
 
 
 def all_planted(faults, build, *words):
-    """Of each fault a folder with what is built of it, and what the build said; they are built at once. Of the DLL only the edited source is compiled for each."""
+    """Of each fault a folder with what is built of it, and what the build said; they are built at
+    once. Of the DLL only the edited source is compiled for each."""
     rooms = {name: tempfile.TemporaryDirectory() for name in faults}
 
     def one(name):
@@ -594,11 +721,18 @@ def all_planted(faults, build, *words):
         for it in glob.glob(f"{shared}/*.o"):
             if not it.endswith(f"-{file.removesuffix('.c')}.o"):
                 shutil.copy(it, objects)
-        return room, built([f"{planted(room.name, file, edits)}/{build}", *words, room.name], env={**os.environ, "CFLAGS": "-O0", "OBJECTS": objects})
+        return room, built(
+            [f"{planted(room.name, file, edits)}/{build}", *words, room.name],
+            env={**os.environ, "CFLAGS": "-O0", "OBJECTS": objects},
+        )
 
-    with tempfile.TemporaryDirectory() as shared, concurrent.futures.ThreadPoolExecutor(os.cpu_count()) as pool:
+    with tempfile.TemporaryDirectory() as shared, concurrent.futures.ThreadPoolExecutor(
+        os.cpu_count()
+    ) as pool:
         if build == "build.sh":
-            built([f"{COM}/build.sh", shared], env={**os.environ, "CFLAGS": "-O0 -w -save-temps=obj"})
+            built(
+                [f"{COM}/build.sh", shared], env={**os.environ, "CFLAGS": "-O0 -w -save-temps=obj"}
+            )
         return dict(zip(rooms, pool.map(one, rooms)))
 
 

@@ -1,4 +1,5 @@
-"""What the tests of oaut-dcom share: a store with its gateway and oaut-dcom before it, and the Python that has what it needs."""
+"""What the tests of oaut-dcom share: a store with its gateway and oaut-dcom before it, and the
+Python that has what it needs."""
 import contextlib
 import functools
 import itertools
@@ -14,18 +15,21 @@ import tempfile
 import time
 import unittest
 
-from gateways import Gateway, left_out
-from preloaded import fast_folder
-from running import ROOT, Cases
+from tests.gateway.gateways import Gateway, left_out
+from tests.support.preloaded import fast_folder
+from tests.support.running import ROOT, Cases
 
-CLIENTS = f"{ROOT}/tests/dcom/clients"
+# the package of the clients: each of its modules is run with -m, in a Python that has what it needs
+CLIENTS = "tests.dcom.clients"
 DCOM = f"{ROOT}/clients/dcom"
 SECONDS = 180  # of each thing that is waited for
 SCRIPT = 800  # of a script
 PASSWORD = b"Secret-1\n"
 REALM = "OAUT.TEST"
 # each server of this process has an address of its own, since the well-known port is one
-_HOSTS = (f"127.{os.getpid() // 250 % 190 + 64}.{os.getpid() % 250 + 1}.{it}" for it in itertools.count(1))
+_HOSTS = (
+    f"127.{os.getpid() // 250 % 190 + 64}.{os.getpid() % 250 + 1}.{it}" for it in itertools.count(1)
+)
 
 
 def own_host():
@@ -34,7 +38,12 @@ def own_host():
 
 
 def environment(**more):
-    found = {**os.environ, "PYTHONPATH": f"{DCOM}:{ROOT}/clients/python", "PYTHONDONTWRITEBYTECODE": "1", **more}
+    found = {
+        **os.environ,
+        "PYTHONPATH": f"{ROOT}:{DCOM}:{ROOT}/clients/python",
+        "PYTHONDONTWRITEBYTECODE": "1",
+        **more,
+    }
     found.pop("OAUT_DCOM_ALIGN_8", None) if "OAUT_DCOM_ALIGN_8" not in more else None
     return found
 
@@ -43,14 +52,21 @@ def environment(**more):
 def python_with(*modules):
     """A Python that has these modules, or nothing."""
     for it in dict.fromkeys((sys.executable, "/usr/bin/python3")):
-        if os.path.exists(it) and not subprocess.run([it, "-c", f"import {', '.join(modules)}"], capture_output=True).returncode:
+        if (
+            os.path.exists(it)
+            and not subprocess.run(
+                [it, "-c", f"import {', '.join(modules)}"], capture_output=True
+            ).returncode
+        ):
             return it
     return ""
 
 
 def needs(*modules):
     """Leaves a test or a class of them out where no Python has these modules."""
-    missing = [it for it in modules if not python_with(it)] or ([] if python_with(*modules) else modules)
+    missing = [it for it in modules if not python_with(it)] or (
+        [] if python_with(*modules) else modules
+    )
     return unittest.skipIf(missing, f"no Python has {', '.join(missing)}")
 
 
@@ -60,14 +76,31 @@ needs_root = unittest.skipIf(os.geteuid(), "port 135 is root's")
 class Served:
     """oaut-dcom before a gateway over a store of its own, on an address of its own."""
 
-    def __init__(self, *words, modules=("Cryptodome",), users="", host=None, resolver=135, port=49200, watches=False, **env):
+    def __init__(
+        self,
+        *words,
+        modules=("Cryptodome",),
+        users="",
+        host=None,
+        resolver=135,
+        port=49200,
+        watches=False,
+        **env,
+    ):
         """With `watches`, the store is one of two coclasses."""
         self.words, self.env, self.python = words, env, python_with(*modules)
         self.host, self.resolver, self.port = host or own_host(), resolver, port
         self.folder = tempfile.mkdtemp(dir=fast_folder())
         self.stack = contextlib.ExitStack()
         self.stack.callback(shutil.rmtree, self.folder, True)
-        how = {"sockets": ("listen", "watch", "control"), "library": f"{ROOT}/clients/com/tests/demo.idl"} if watches else {}
+        how = (
+            {
+                "sockets": ("listen", "watch", "control"),
+                "library": f"{ROOT}/clients/com/tests/demo.idl",
+            }
+            if watches
+            else {}
+        )
         self.gateway = self.stack.enter_context(Gateway(**how))
         if watches:
             self.words = [*words, "--watch", f"{self.gateway.room}/watch"]
@@ -80,20 +113,42 @@ class Served:
 
     def run(self, *words, given=b"", **how):
         """A command of oaut-dcom: its status, its output, its line on standard error."""
-        done = subprocess.run([self.python, "-m", "oaut_dcom", *words], input=given, capture_output=True, timeout=SECONDS, env=environment(), **how)
+        done = subprocess.run(
+            [self.python, "-m", "oaut_dcom", *words],
+            input=given,
+            capture_output=True,
+            timeout=SECONDS,
+            env=environment(),
+            **how,
+        )
         return done.returncode, done.stdout.decode(), done.stderr.decode()
 
     def hash(self, user, password=PASSWORD):
         return self.run("hash", user, given=password)[1]
 
     def options(self):
-        return ["--gateway", self.socket, "--users", self.users, "--listen", self.host, "--state", f"{self.folder}/state", "--name", "store.oaut.test"]
+        return [
+            "--gateway",
+            self.socket,
+            "--users",
+            self.users,
+            "--listen",
+            self.host,
+            "--state",
+            f"{self.folder}/state",
+            "--name",
+            "store.oaut.test",
+        ]
 
     def start(self, *words):
         own = [*self.options(), "--port", str(self.port), "--resolver-port", str(self.resolver)]
         self.log = open(f"{self.folder}/log", "ab")
         begun = len(self.said())
-        self.child = subprocess.Popen([self.python, "-m", "oaut_dcom", *own, *self.words, *words], stderr=self.log, env=environment(**self.env))
+        self.child = subprocess.Popen(
+            [self.python, "-m", "oaut_dcom", *own, *self.words, *words],
+            stderr=self.log,
+            env=environment(**self.env),
+        )
         until = time.monotonic() + SECONDS
         while "serves port" not in self.said()[begun:]:
             if self.child.poll() is not None or time.monotonic() > until:
@@ -106,7 +161,8 @@ class Served:
             return file.read()
 
     def says(self, *texts):
-        """What it has said, once it has these texts or the time is over: a line may be written after the reply that it is about."""
+        """What it has said, once it has these texts or the time is over: a line may be written
+        after the reply that it is about."""
         until = time.monotonic() + 30
         while not all(it in self.said() for it in texts) and time.monotonic() < until:
             time.sleep(0.02)
@@ -119,7 +175,9 @@ class Served:
         return status
 
     def settings(self, **more):
-        return environment(DCOM_HOST=self.host, DCOM_RESOLVER=str(self.resolver), DCOM_PORT=str(self.port), **more)
+        return environment(
+            DCOM_HOST=self.host, DCOM_RESOLVER=str(self.resolver), DCOM_PORT=str(self.port), **more
+        )
 
     def memory(self):
         """Its resident bytes."""
@@ -139,32 +197,59 @@ class Served:
 
 
 class Kdc:
-    """A realm of the test's own: users joe and ann, and the service's keytab. `enter` are words before a command that listens or connects."""
+    """A realm of the test's own: users joe and ann, and the service's keytab. `enter` are words
+    before a command that listens or connects."""
 
     def __init__(self, host, enter=()):
         self.folder = tempfile.mkdtemp()
         self.keytab, self.config = f"{self.folder}/keytab", f"{self.folder}/krb5.conf"
         with open(self.config, "w") as file:
             file.write(
-                f"[libdefaults]\n default_realm = {REALM}\n dns_lookup_kdc = false\n dns_lookup_realm = false\n rdns = false\n udp_preference_limit = 1\n"
-                f"[realms]\n {REALM} = {{\n  kdc = {host}:88\n }}\n[domain_realm]\n .oaut.test = {REALM}\n"
+                f"[libdefaults]\n default_realm = {REALM}\n dns_lookup_kdc = false\n"
+                " dns_lookup_realm = false\n rdns = false\n udp_preference_limit = 1\n"
+                f"[realms]\n {REALM} = {{\n  kdc = {host}:88\n }}\n[domain_realm]\n"
+                f" .oaut.test = {REALM}\n"
             )
         with open(f"{self.folder}/kdc.conf", "w") as file:
             file.write(
-                f"[kdcdefaults]\n kdc_listen = {host}:88\n kdc_tcp_listen = {host}:88\n[realms]\n {REALM} = {{\n  database_name = {self.folder}/principal\n"
-                f"  key_stash_file = {self.folder}/stash\n  acl_file = {self.folder}/acl\n }}\n[logging]\n kdc = FILE:{self.folder}/kdc.log\n"
+                f"[kdcdefaults]\n kdc_listen = {host}:88\n kdc_tcp_listen = {host}:88\n[realms]\n"
+                f" {REALM} = {{\n  database_name = {self.folder}/principal\n"
+                f"  key_stash_file = {self.folder}/stash\n  acl_file = {self.folder}/acl\n }}\n"
+                f"[logging]\n kdc = FILE:{self.folder}/kdc.log\n"
             )
-        self.variables = {"KRB5_CONFIG": self.config, "KRB5_KDC_PROFILE": f"{self.folder}/kdc.conf", "KRB5CCNAME": f"{self.folder}/cc"}
+        self.variables = {
+            "KRB5_CONFIG": self.config,
+            "KRB5_KDC_PROFILE": f"{self.folder}/kdc.conf",
+            "KRB5CCNAME": f"{self.folder}/cc",
+        }
         env = {**os.environ, **self.variables}
-        subprocess.run(["kdb5_util", "create", "-s", "-r", REALM, "-P", "master"], env=env, check=True, capture_output=True)
-        commands = "addprinc -pw Secret-1 joe\naddprinc -pw Secret-2 ann\naddprinc -randkey host/store.oaut.test\n"
+        subprocess.run(
+            ["kdb5_util", "create", "-s", "-r", REALM, "-P", "master"],
+            env=env,
+            check=True,
+            capture_output=True,
+        )
+        commands = (
+            "addprinc -pw Secret-1 joe\naddprinc -pw Secret-2 ann\n"
+            "addprinc -randkey host/store.oaut.test\n"
+        )
         commands += f"ktadd -k {self.keytab} host/store.oaut.test\n"
-        subprocess.run(["kadmin.local", "-r", REALM], input=commands.encode(), env=env, check=True, capture_output=True)
-        self.child = subprocess.Popen([*enter, "krb5kdc", "-n", "-r", REALM], env=env, stderr=subprocess.DEVNULL)
+        subprocess.run(
+            ["kadmin.local", "-r", REALM],
+            input=commands.encode(),
+            env=env,
+            check=True,
+            capture_output=True,
+        )
+        self.child = subprocess.Popen(
+            [*enter, "krb5kdc", "-n", "-r", REALM], env=env, stderr=subprocess.DEVNULL
+        )
         until = time.monotonic() + SECONDS
         while time.monotonic() < until:
             code = f"import socket; socket.create_connection(('{host}', 88), timeout=60)"
-            if not subprocess.run([*enter, sys.executable, "-c", code], stderr=subprocess.DEVNULL).returncode:
+            if not subprocess.run(
+                [*enter, sys.executable, "-c", code], stderr=subprocess.DEVNULL
+            ).returncode:
                 return
             time.sleep(0.05)
         raise AssertionError("the KDC does not listen")
@@ -176,7 +261,8 @@ class Kdc:
 
 
 class Capture:
-    """What goes to and from an address while this lasts, and what Wireshark's dissectors say of it. It captures nothing where the tools or the rights are missing."""
+    """What goes to and from an address while this lasts, and what Wireshark's dissectors say of it.
+    It captures nothing where the tools or the rights are missing."""
 
     def __init__(self, host):
         self.host, self.room, self.process, self.why_not = host, tempfile.mkdtemp(), None, ""
@@ -185,8 +271,21 @@ class Capture:
         if missing:
             self.why_not = f"{', '.join(missing)} not there"
             return
-        words = ["dumpcap", "-q", "-i", "lo", "-B", "64", "-f", f"tcp and host {host}", "-w", self.path]
-        self.process = subprocess.Popen(words, stdout=subprocess.DEVNULL, stderr=subprocess.PIPE, text=True)
+        words = [
+            "dumpcap",
+            "-q",
+            "-i",
+            "lo",
+            "-B",
+            "64",
+            "-f",
+            f"tcp and host {host}",
+            "-w",
+            self.path,
+        ]
+        self.process = subprocess.Popen(
+            words, stdout=subprocess.DEVNULL, stderr=subprocess.PIPE, text=True
+        )
         said = ""
         for line in self.process.stderr:  # "Capturing on ..", then "File: .." when it captures
             said += line
@@ -196,10 +295,13 @@ class Capture:
         self.why_not = f"nothing is captured here: {said[-300:]}"
 
     def end(self):
-        """Ends the capture when all that was sent is in the file: a text that is sent last is there."""
+        """Ends the capture when all that was sent is in the file: a text that is sent last is
+        there."""
         if self.process is not None and self.process.poll() is None:
             last = b"oaut" + secrets.token_hex(16).encode()
-            with socket.create_server((self.host, 0)) as there, socket.create_connection(there.getsockname()) as sock:
+            with socket.create_server((self.host, 0)) as there, socket.create_connection(
+                there.getsockname()
+            ) as sock:
                 sock.sendall(last)
                 until, found = time.monotonic() + SECONDS, False
                 while not found and self.process.poll() is None and time.monotonic() < until:
@@ -216,43 +318,63 @@ class Capture:
 
     def told(self, ports, shown, *fields, keytab=""):
         """Of each PDU that a filter of Wireshark shows: the fields' values."""
-        words = ["tshark", "-r", self.path, "-o", "ntlmssp.nt_password:Secret-1", *(["-K", keytab] if keytab else [])]
+        words = [
+            "tshark",
+            "-r",
+            self.path,
+            "-o",
+            "ntlmssp.nt_password:Secret-1",
+            *(["-K", keytab] if keytab else []),
+        ]
         for port in ports:
             words += ["-d", f"tcp.port=={port},dcerpc"]
         words += ["-Y", shown, "-T", "fields", *[it for name in fields for it in ("-e", name)]]
-        done = subprocess.run(words, stdout=subprocess.PIPE, stderr=subprocess.PIPE, text=True, timeout=SECONDS * 3)
+        done = subprocess.run(
+            words, stdout=subprocess.PIPE, stderr=subprocess.PIPE, text=True, timeout=SECONDS * 3
+        )
         return [line.split("\t") for line in done.stdout.splitlines()]
 
 
-# what Wireshark 4.0's dissectors cannot read in a stub that is right: VARIANTs of NULL, INT, UINT, DECIMAL and CY below 0, of objects, arrays of VARIANT, and a
-# VARIANT by reference; and the null BSTR in Wine's form
+# what Wireshark 4.0's dissectors cannot read in a stub that is right: VARIANTs of NULL, INT, UINT,
+# DECIMAL and CY below 0, of objects, arrays of VARIANT, and a VARIANT by reference; and the null
+# BSTR in Wine's form
 _UNREAD = re.compile(
-    rb"MEOW|\0{4}([\x01\x06\x0e\x16\x17])\0.{6}\1\0{3}|\0{4}\x0c\x20\0{6}\0\x20\0\0|\0{4}\x0c\x40\0{6}\x0c\x40\0\0|\x08\0{11}\xff{4}\0{4}", re.DOTALL
+    rb"MEOW|\0{4}([\x01\x06\x0e\x16\x17])\0.{6}\1\0{3}|\0{4}\x0c\x20\0{6}\0\x20\0\0|\0{4}"
+    rb"\x0c\x40\0{6}\x0c\x40\0\0|\x08\0{11}\xff{4}\0{4}",
+    re.DOTALL,
 )
 
 
 class Scripted(Cases):
-    """Cases that a script under tests/dcom/clients tells: a line of `ok` or `FAIL`, the name and what is said of it."""
+    """Cases that a script under tests/dcom/clients tells: a line of `ok` or `FAIL`, the name and
+    what is said of it."""
 
     def script(self, name, *words, modules=("Cryptodome",), env=None, least=1, enter=()):
         done = subprocess.run(
-            [*enter, python_with(*modules), f"{CLIENTS}/{name}", *words],
+            [*enter, python_with(*modules), "-m", f"{CLIENTS}.{name}", *words],
             stdout=subprocess.PIPE,
             stderr=subprocess.PIPE,
             timeout=SCRIPT,
             env=env or environment(),
         )
-        rows = [line.split("\t") for line in done.stdout.decode("utf-8", "replace").splitlines() if line.startswith(("ok\t", "FAIL\t"))]
+        rows = [
+            line.split("\t")
+            for line in done.stdout.decode("utf-8", "replace").splitlines()
+            if line.startswith(("ok\t", "FAIL\t"))
+        ]
         for row in rows:
             self.tell(row[1], row[0] == "ok", row[2] if len(row) > 2 else "")
         told = done.stderr.decode("utf-8", "replace")
         self.tell(
-            f"{' '.join((name, *words[:1]))} ends", done.returncode == 0 and len(rows) >= least, f"status {done.returncode}, {len(rows)} cases: {told[-1500:]}"
+            f"{' '.join((name, *words[:1]))} ends",
+            done.returncode == 0 and len(rows) >= least,
+            f"status {done.returncode}, {len(rows)} cases: {told[-1500:]}",
         )
 
     @contextlib.contextmanager
     def captured(self, served, shown="", least=50, keytab=""):
-        """Nothing of what goes over the wire meanwhile is malformed for tshark, in stubs that are not sealed or that it can open; `shown` is a filter."""
+        """Nothing of what goes over the wire meanwhile is malformed for tshark, in stubs that are
+        not sealed or that it can open; `shown` is a filter."""
         capture = Capture(served.host)
         try:
             yield capture
@@ -261,7 +383,14 @@ class Scripted(Cases):
                 print(f"left out {self.id()}, its capture: {capture.why_not}", flush=True)
                 return
             ports, wanted = (served.resolver, served.port), f"({shown})" if shown else "tcp"
-            rows = capture.told(ports, f"_ws.malformed && {wanted}", "frame.number", "dcerpc.opnum", "tcp.payload", keytab=keytab)
+            rows = capture.told(
+                ports,
+                f"_ws.malformed && {wanted}",
+                "frame.number",
+                "dcerpc.opnum",
+                "tcp.payload",
+                keytab=keytab,
+            )
             wrong = [row[:2] for row in rows if not _UNREAD.search(bytes.fromhex(row[2]))]
             self.tell("tshark finds nothing malformed", wrong == [], (len(rows), wrong[:9]))
             seen = len(capture.told(ports, f"dcerpc && {wanted}", "frame.number", keytab=keytab))

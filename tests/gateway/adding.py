@@ -1,6 +1,8 @@
-"""A client that increments the Count of object 1: `python3 adding.py ADDRESS WAY COUNT TASKS`. It prints `ready`, and begins with the next line of its standard
-input. In the end it prints as JSON what its increments have returned, and how many sessions have ended before. After such an end it connects again, and makes the
-increments that were not acknowledged. WAY is `put` (of the next number, without a lock), `compare` (compare_and_put, again until it has put), `update`, or `tasks`
+"""A client that increments the Count of object 1: `python3 adding.py ADDRESS WAY COUNT TASKS`. It
+prints `ready`, and begins with the next line of its standard input. In the end it prints as JSON
+what its increments have returned, and how many sessions have ended before. After such an end it
+connects again, and makes the increments that were not acknowledged. WAY is `put` (of the next
+number, without a lock), `compare` (compare_and_put, again until it has put), `update`, or `tasks`
 (updates of so many tasks of asyncio)."""
 import asyncio
 import json
@@ -45,7 +47,11 @@ class Adding:
         while self.left:
             self.left -= 1
             try:
-                self.values.append(int(await item.update("Count", lambda count: count + 1, lock=item.array("Grid"))))
+                self.values.append(
+                    int(
+                        await item.update("Count", lambda count: count + 1, lock=item.array("Grid"))
+                    )
+                )
             except BaseException:
                 self.left += 1
                 raise
@@ -54,7 +60,9 @@ class Adding:
         async with aio.connect(self.address, patience=120) as server:
             item = server.object(1, "Item")
             self.begun()
-            for it in await asyncio.gather(*(self.one_after_another(item) for _ in range(self.tasks)), return_exceptions=True):
+            for it in await asyncio.gather(
+                *(self.one_after_another(item) for _ in range(self.tasks)), return_exceptions=True
+            ):
                 if it is not None:
                     raise it
 

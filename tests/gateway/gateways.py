@@ -1,4 +1,5 @@
-"""The gateway, clients/gateway, as its tests have it: built once, with sanitizers where the compiler has them, and started over a store of its own."""
+"""The gateway, clients/gateway, as its tests have it: built once, with sanitizers where the
+compiler has them, and started over a store of its own."""
 import contextlib
 import fcntl
 import functools
@@ -16,12 +17,13 @@ import threading
 import time
 import unittest
 
-from preloaded import fast_folder
-from running import PROGRAM, ROOT, run_in
-from wire import oaut
+from tests.support.preloaded import fast_folder
+from tests.support.running import PROGRAM, ROOT, run_in
+from tests.support.wire import oaut
 
 GATEWAY = f"{ROOT}/clients/gateway"
-LIBRARY = f"{ROOT}/crates/oa_gateway_c/out/liboa_gateway_c.a"  # the proved part, by tools/gateway_library.py
+# the proved part, by tools/gateway_library.py
+LIBRARY = f"{ROOT}/crates/oa_gateway_c/out/liboa_gateway_c.a"
 FULL = f"{ROOT}/examples/full.idl"
 SANITIZED = "-O1 -g -fsanitize=address,undefined -fno-sanitize-recover=all"
 SECONDS = float(os.environ.get("OAUT_SECONDS") or 180)  # of each thing that is waited for
@@ -34,19 +36,28 @@ def left_out(*tools):
 
 
 def compiled(words, flags):
-    done = subprocess.run(words, env={**os.environ, "CFLAGS": flags}, stdout=subprocess.PIPE, stderr=subprocess.STDOUT, text=True)
+    done = subprocess.run(
+        words,
+        env={**os.environ, "CFLAGS": flags},
+        stdout=subprocess.PIPE,
+        stderr=subprocess.STDOUT,
+        text=True,
+    )
     return done.returncode, done.stdout
 
 
 @functools.lru_cache(None)
 def built(flags=None):
-    """The gateway's program and what its build said, with the folder that holds it as long as this process lives. With sanitizers, where nothing is said and the
-    compiler has them. OAUT_GATEWAY and OAUT_GATEWAY_PLAIN name programs that are there already (tools/gateway_mutants.py)."""
+    """The gateway's program and what its build said, with the folder that holds it as long as this
+    process lives. With sanitizers, where nothing is said and the compiler has them. OAUT_GATEWAY
+    and OAUT_GATEWAY_PLAIN name programs that are there already (tools/gateway_mutants.py)."""
     there = os.environ.get("OAUT_GATEWAY" if flags is None else "OAUT_GATEWAY_PLAIN")
     if there:
         return there, (0, ""), None
     folder = tempfile.TemporaryDirectory()
-    status, said = compiled([f"{GATEWAY}/build.sh", folder.name], SANITIZED if flags is None else flags)
+    status, said = compiled(
+        [f"{GATEWAY}/build.sh", folder.name], SANITIZED if flags is None else flags
+    )
     if status and flags is None:
         status, said = compiled([f"{GATEWAY}/build.sh", folder.name], "-O1")
     return f"{folder.name}/oaut-gateway", (status, said), folder
@@ -58,7 +69,18 @@ def library(name, source):
     folder = tempfile.TemporaryDirectory()
     with open(f"{folder.name}/{name}.c", "w") as file:
         file.write(source)
-    subprocess.run(["cc", "-O1", "-shared", "-fPIC", "-o", f"{folder.name}/{name}.so", f"{folder.name}/{name}.c"], check=True)
+    subprocess.run(
+        [
+            "cc",
+            "-O1",
+            "-shared",
+            "-fPIC",
+            "-o",
+            f"{folder.name}/{name}.so",
+            f"{folder.name}/{name}.c",
+        ],
+        check=True,
+    )
     return f"{folder.name}/{name}.so", folder
 
 
@@ -80,7 +102,8 @@ int fdatasync(int fd) {
 
 @functools.lru_cache(None)
 def store_of(path):
-    """A formatted store of a library, kept as long as this process lives: it is copied for each gateway."""
+    """A formatted store of a library, kept as long as this process lives: it is copied for each
+    gateway."""
     folder = tempfile.TemporaryDirectory(dir=fast_folder())
     shutil.copy(path, f"{folder.name}/lib.idl")
     status, _, said = run_in(folder.name, ["format", "it.store", "lib.idl"])
@@ -105,7 +128,8 @@ def records(bodies):
 
 
 class Gateway:
-    """A gateway over a store in a folder of its own, in memory where that is there. Its sockets are files of the folder named for their options."""
+    """A gateway over a store in a folder of its own, in memory where that is there. Its sockets are
+    files of the folder named for their options."""
 
     OPTIONS = ("listen", "listen-hex", "alone", "control", "metrics")
 
@@ -136,13 +160,21 @@ class Gateway:
 
     def start(self, waits=True):
         self.error = open(f"{self.room}/said", "a+b")
-        self.process = subprocess.Popen(self.words, stderr=self.error, env={**os.environ, **{name: str(it) for name, it in self.variables.items()}})
+        self.process = subprocess.Popen(
+            self.words,
+            stderr=self.error,
+            env={**os.environ, **{name: str(it) for name, it in self.variables.items()}},
+        )
         if waits:
-            self.wait_for(lambda: self.process.poll() is not None or self.answers(), "the gateway does not listen")
+            self.wait_for(
+                lambda: self.process.poll() is not None or self.answers(),
+                "the gateway does not listen",
+            )
         return self
 
     def answers(self):
-        """Whether it listens. It has told the connection that asks its end by then, so all of its sockets have their names."""
+        """Whether it listens. It has told the connection that asks its end by then, so all of its
+        sockets have their names."""
         try:
             with self.dial("listen") as sock:
                 with contextlib.suppress(OSError):
@@ -153,8 +185,12 @@ class Gateway:
             return False
 
     def settles(self, count=0):
-        """Waits until so many clients are connected. A connection that was closed counts until the gateway has seen its end."""
-        self.wait_for(lambda: self.counters().get("oaut_gateway_clients") == count, f"there are not {count} clients")
+        """Waits until so many clients are connected. A connection that was closed counts until the
+        gateway has seen its end."""
+        self.wait_for(
+            lambda: self.counters().get("oaut_gateway_clients") == count,
+            f"there are not {count} clients",
+        )
 
     @staticmethod
     def wait_for(fact, what, seconds=SECONDS):
@@ -172,7 +208,11 @@ class Gateway:
         """Ends it. Where a case has failed, what the gateway said until then is printed."""
         if kind and self.process:
             with open(f"{self.room}/said", errors="replace") as file:
-                print(f"the gateway's status is {self.process.poll()}; it said:\n{file.read()[-2000:]}", flush=True)
+                print(
+                    f"the gateway's status is {self.process.poll()}; it said:\n"
+                    f"{file.read()[-2000:]}",
+                    flush=True,
+                )
         if self.process and self.process.poll() is None:
             self.process.kill()
             self.process.wait()
@@ -217,8 +257,18 @@ class Gateway:
 
     def counters(self):
         """What `status` prints, by name."""
-        done = subprocess.run([self.binary, "status", f"{self.room}/control"], capture_output=True, text=True, timeout=SECONDS)
-        return {name: float(value) for name, value in (line.rsplit(" ", 1) for line in done.stdout.splitlines() if not line.startswith("#"))}
+        done = subprocess.run(
+            [self.binary, "status", f"{self.room}/control"],
+            capture_output=True,
+            text=True,
+            timeout=SECONDS,
+        )
+        return {
+            name: float(value)
+            for name, value in (
+                line.rsplit(" ", 1) for line in done.stdout.splitlines() if not line.startswith("#")
+            )
+        }
 
     def end(self, with_=signal.SIGTERM):
         """Its status, and what it said."""

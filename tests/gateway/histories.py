@@ -1,20 +1,25 @@
 """Histories of many clients behind the gateway, and whether they are those of one table of objects.
 
-    OAUT_PROGRAM=PATH python3 tests/gateway/histories.py [--seed S] [--rounds N]
+    OAUT_PROGRAM=PATH python3 -m tests.gateway.histories [--seed S] [--rounds N]
 
-In a round 16 clients ask over all opcodes at once: some in pieces, some by lines, some alone, some over a line that delays, splits and stalls their bytes (in
-the place of netem, which not every kernel has). They hang up in several ways, some in the middle of their requests. Meanwhile the server, the gateway or both
-are killed, the device fails or is full, the server or some clients do nothing for a while, or nothing happens. Between gateway and server a program writes down
-what goes by in either direction: the order in which the server was asked. After each round this is looked at:
+In a round 16 clients ask over all opcodes at once: some in pieces, some by lines, some alone, some
+over a line that delays, splits and stalls their bytes (in the place of netem, which not every
+kernel has). They hang up in several ways, some in the middle of their requests. Meanwhile the
+server, the gateway or both are killed, the device fails or is full, the server or some clients do
+nothing for a while, or nothing happens. Between gateway and server a program writes down what goes
+by in either direction: the order in which the server was asked. After each round this is looked at:
 
-- each reply of the server is the model's, request by request in that order, and to whom asked it: locks have owners, and end with them (tests/support/sharing.py);
-- each client's requests stand there in its own order and under one number, none twice, none that it did not send, and each reply that it got is the one of its own
-  request;
+- each reply of the server is the model's, request by request in that order, and to whom asked it:
+  locks have owners, and end with them (tests/support/sharing.py);
+- each client's requests stand there in its own order and under one number, none twice, none that it
+  did not send, and each reply that it got is the one of its own request;
 - a request that was sent behind the reply to another one stands behind it;
 - nobody comes between two requests of who has the server alone;
 - what comes by a read-only socket changes nothing, and is refused where it might;
-- those who watch were told each change that was answered with S_OK, once and in that order, and nothing else; of a gateway that was killed some first of them;
-- the store opens to the model's objects behind some first of the requests, all that were answered among them.
+- those who watch were told each change that was answered with S_OK, once and in that order, and
+  nothing else; of a gateway that was killed some first of them;
+- the store opens to the model's objects behind some first of the requests, all that were answered
+  among them.
 """
 import argparse
 import collections
@@ -33,23 +38,22 @@ import tempfile
 import threading
 import time
 
-sys.path.append(f"{os.path.dirname(os.path.abspath(__file__))}/../support")
-from asked import REPLACE, Answering, Bytes
-from codes import WRITE_FAULT
-from drawn import Session
-from due import dump_of
-from gateways import FAILS, SECONDS, Gateway, library, record
-from kept import changed
-from model import LIBRARY, Refusal
-from running import PROGRAM, goes_on, run_in
-from sharing import STUB, Owned, Sharing, Streams, told_of
-from watched import expected, passed, unpatched
+from tests.gateway.gateways import FAILS, SECONDS, Gateway, library, record
+from tests.gateway.watched import expected, passed, unpatched
+from tests.support.asked import REPLACE, Answering, Bytes
+from tests.support.codes import WRITE_FAULT
+from tests.support.drawn import Session
+from tests.support.due import dump_of
+from tests.support.kept import changed
+from tests.support.model import LIBRARY, Refusal
+from tests.support.running import PROGRAM, goes_on, run_in
+from tests.support.sharing import STUB, Owned, Sharing, Streams, told_of
 
 CLIENTS = 16
 OWN = 0xFFFF_FFFE  # the gateway's own number
 E_FAIL = 0x8000_4005
-# what happens in a round: `device` and `full` are a sync that fails with EIO and ENOSPC, `stop` is a server that does nothing for a while, `stall` are clients
-# that do so
+# what happens in a round: `device` and `full` are a sync that fails with EIO and ENOSPC, `stop` is
+# a server that does nothing for a while, `stall` are clients that do so
 KILLS = ("nothing", "server", "gateway", "both", "device", "full", "stop", "stall", "end")
 FAULTS = {"device": errno.EIO, "full": errno.ENOSPC}
 SYNCS = 60  # the last sync that fails is the one of this number
@@ -65,7 +69,9 @@ log = os.open("%s/log.%%020d" %% time.monotonic_ns(), os.O_WRONLY | os.O_CREAT |
 environment = dict(os.environ)
 if "SYNCS" in environment:
     environment["LD_PRELOAD"] = %r
-child = subprocess.Popen([%r, *sys.argv[1:]], stdin=subprocess.PIPE, stdout=subprocess.PIPE, bufsize=0, env=environment, pass_fds=[int(sys.argv[-1].rsplit("/", 1)[1])])
+pipes = {"stdin": subprocess.PIPE, "stdout": subprocess.PIPE, "bufsize": 0}
+pipes["pass_fds"] = [int(sys.argv[-1].rsplit("/", 1)[1])]
+child = subprocess.Popen([%r, *sys.argv[1:]], env=environment, **pipes)
 def written(to, data):
     while data:
         data = data[os.write(to, data):]
@@ -78,8 +84,9 @@ def goes(source, to, sign):
             os.write(log, sign + len(data).to_bytes(4, "little") + data)
             written(to, data)
     except OSError:
+        # (the gateway has ended: else a server with more replies than a pipe holds would wait)
         while sign == b"S" and os.read(source, 1 << 16):
-            pass # (the gateway has ended: else a server with more replies than a pipe holds would wait for ever)
+            pass
     if sign == b"C":
         child.stdin.close()
 threading.Thread(target=goes, args=(0, child.stdin.fileno(), b"C"), daemon=True).start()
@@ -100,7 +107,9 @@ class Guide(Session):
         new = changed(self.model.library, self.dice)
         text = new.text()
         LIBRARIES[text] = new
-        return struct.pack("<HHII", 12, 0, len(text), 0) + text + bytes(-len(text) % 8), lambda: self.model.replace(new)
+        return struct.pack("<HHII", 12, 0, len(text), 0) + text + bytes(
+            -len(text) % 8
+        ), lambda: self.model.replace(new)
 
     def body(self, tag):
         request, act = self.request()
@@ -138,7 +147,8 @@ class Replay(Answering):
 
 
 class Asked(Streams):
-    """What a server was asked, in order: pairs of a client and a body, or of a client and, at its end, whether what came last was no request."""
+    """What a server was asked, in order: pairs of a client and a body, or of a client and, at its
+    end, whether what came last was no request."""
 
     def __init__(self, stream):
         super().__init__()
@@ -160,14 +170,18 @@ def told_by(answering, client, what):
 
 
 def bad_line(sock, seed):
-    """The near end of a line to a socket: in either direction bytes come late, in parts, and now and then not for a while; each end of it is an end there."""
+    """The near end of a line to a socket: in either direction bytes come late, in parts, and now
+    and then not for a while; each end of it is an end there."""
     near, far = socket.socketpair()
     sock.setblocking(True)
 
     def goes(source, to, dice):
         try:
             while some := source.recv(dice.choice([1, 7, 64, 1 << 12, 1 << 16])):
-                time.sleep(dice.expovariate(2000) + (dice.uniform(0.02, 0.3) if dice.random() < 0.02 else 0))
+                time.sleep(
+                    dice.expovariate(2000)
+                    + (dice.uniform(0.02, 0.3) if dice.random() < 0.02 else 0)
+                )
                 to.sendall(some)
             to.shutdown(socket.SHUT_WR)
         except OSError:  # (an end that is reset is one for both directions)
@@ -193,14 +207,25 @@ class Visit:
     def __init__(self, number, kind, sock, dice, slow):
         self.number, self.kind, self.sock, self.dice, self.slow = number, kind, sock, dice, slow
         self.bodies, self.sent_at, self.replies, self.heard_at = [], [], [], []
-        self.out, self.got, self.planned, self.most = b"", b"", dice.randrange(4, 40), dice.choice([1, 1, 4, 32])
+        self.out, self.got, self.planned, self.most = (
+            b"",
+            b"",
+            dice.randrange(4, 40),
+            dice.choice([1, 1, 4, 32]),
+        )
         self.ended = self.half = False
-        self.stalls, self.until = None, 0  # behind so many requests it does nothing, until a point in time
-        self.leaves = dice.randrange(1, 12) if dice.random() < 0.15 else None  # behind so many it goes, whatever it waits for
+        # behind so many requests it does nothing, until a point in time
+        self.stalls, self.until = None, 0
+        # behind so many it goes, whatever it waits for
+        self.leaves = dice.randrange(1, 12) if dice.random() < 0.15 else None
         sock.setblocking(False)
 
     def ask(self, guide):
-        while self.planned and len(self.bodies) - len(self.replies) < self.most and len(self.out) < 1 << 16:
+        while (
+            self.planned
+            and len(self.bodies) - len(self.replies) < self.most
+            and len(self.out) < 1 << 16
+        ):
             body = guide.body(self.number << 12 | len(self.bodies))
             self.bodies.append(body)
             self.sent_at.append(time.monotonic())
@@ -214,13 +239,19 @@ class Visit:
     def step(self, guide):
         """Sends and hears what it can; false once it has ended."""
         if self.stalls is not None and len(self.bodies) >= self.stalls:
-            self.stalls, self.until = None, time.monotonic() + self.dice.uniform(STALLED / 2, 3 * STALLED)
+            self.stalls, self.until = None, time.monotonic() + self.dice.uniform(
+                STALLED / 2, 3 * STALLED
+            )
         if time.monotonic() < self.until:
             return True
         self.ask(guide)
         try:
             if self.out:
-                self.out = self.out[self.sock.send(self.out[: self.dice.randrange(1, 200)] if self.slow else self.out) :]
+                self.out = self.out[
+                    self.sock.send(
+                        self.out[: self.dice.randrange(1, 200)] if self.slow else self.out
+                    ) :
+                ]
         except BlockingIOError:
             pass
         except OSError:
@@ -238,7 +269,13 @@ class Visit:
             self.sock.setsockopt(socket.SOL_SOCKET, socket.SO_LINGER, struct.pack("ii", 1, 0))
             self.ended, self.half = True, False
         done = not self.planned and not self.out and len(self.replies) == len(self.bodies)
-        if self.half and not self.ended and not self.planned and not self.out and self.half != "shut":
+        if (
+            self.half
+            and not self.ended
+            and not self.planned
+            and not self.out
+            and self.half != "shut"
+        ):
             self.sock.shutdown(socket.SHUT_WR)
             self.half = "shut"
         if done and not self.half:
@@ -271,7 +308,9 @@ class Watcher:
 
     def __init__(self, gateway):
         self.lines, self.first, self.sock = [], None, None
-        gateway.wait_for(lambda: self.dialled(gateway) or gateway.process.poll() is not None, "nobody may watch")
+        gateway.wait_for(
+            lambda: self.dialled(gateway) or gateway.process.poll() is not None, "nobody may watch"
+        )
         self.begun = threading.Event()
         self.thread = threading.Thread(target=self.hear, daemon=True)
         self.thread.start()
@@ -331,7 +370,11 @@ class Round:
         for it in os.listdir(self.gateway.room):
             if it.startswith("log."):
                 os.unlink(f"{self.gateway.room}/{it}")
-        self.gateway.words = [*self.gateway.usual[:-1], *(["--stalled", str(STALLED)] if self.kind == "stall" else []), self.gateway.usual[-1]]
+        self.gateway.words = [
+            *self.gateway.usual[:-1],
+            *(["--stalled", str(STALLED)] if self.kind == "stall" else []),
+            self.gateway.usual[-1],
+        ]
         self.gateway.variables.pop("SYNCS", None)
         if self.kind in FAULTS:
             self.gateway.variables["SYNCS"] = self.seed // len(KILLS) % SYNCS
@@ -357,14 +400,22 @@ class Round:
             if not live and (not left or self.gateway.process.poll() is not None):
                 break
             if now > begun + LONGEST:
-                raise Wrong(f"clients that wait: {[(it.kind, len(it.bodies), len(it.replies)) for it in live]}")
+                raise Wrong(
+                    "clients that wait: "
+                    f"{[(it.kind, len(it.bodies), len(it.replies)) for it in live]}"
+                )
             time.sleep(0.0005)
         self.resume()
         if self.gateway.process.poll() is None:
             if not struck or self.kind == "nothing":
                 self.gateway.settles()
-            if self.kind == "stall":  # (its server too has only so many seconds for its end, if none are named anew)
-                subprocess.run([self.gateway.binary, "reload", f"{self.gateway.room}/control"], stdout=subprocess.DEVNULL, stderr=subprocess.DEVNULL)
+            # (its server too has only so many seconds for its end, if none are named anew)
+            if self.kind == "stall":
+                subprocess.run(
+                    [self.gateway.binary, "reload", f"{self.gateway.room}/control"],
+                    stdout=subprocess.DEVNULL,
+                    stderr=subprocess.DEVNULL,
+                )
             self.gateway.process.terminate()
         status = self.gateway.process.wait(SECONDS)
         self.watcher.thread.join(SECONDS)
@@ -372,9 +423,20 @@ class Round:
             said = file.read()
         if "Sanitizer" in said or "runtime error" in said:
             raise Wrong(said[-3000:])
-        faulted = any(struct.unpack_from("<I", it, 4)[0] == WRITE_FAULT for visit in self.visits for it in visit.replies)
-        due = {"gateway": (-9,), "both": (-9,), "device": (0, 3), "full": (0, 3)}.get(self.kind, (0,))
-        if struck and status not in due and not (self.kind in ("gateway", "both") and status == 0) or (faulted and status != 3):
+        faulted = any(
+            struct.unpack_from("<I", it, 4)[0] == WRITE_FAULT
+            for visit in self.visits
+            for it in visit.replies
+        )
+        due = {"gateway": (-9,), "both": (-9,), "device": (0, 3), "full": (0, 3)}.get(
+            self.kind, (0,)
+        )
+        if (
+            struck
+            and status not in due
+            and not (self.kind in ("gateway", "both") and status == 0)
+            or (faulted and status != 3)
+        ):
             raise Wrong(f"the gateway's status is {status}: {said[-1000:]}")
 
     def strike(self):
@@ -421,7 +483,8 @@ class Round:
         return found
 
     def wait_for_servers(self):
-        """Waits until no server runs: behind a gateway that was killed one still does what had come whole."""
+        """Waits until no server runs: behind a gateway that was killed one still does what had come
+        whole."""
         program = self.gateway.words[self.gateway.words.index("--program") + 1].encode()
 
         def runs():
@@ -450,7 +513,11 @@ class Round:
                     continue
                 tag = struct.unpack_from("<I", body)[0]
                 visit = visits.get(tag >> 12)
-                if visit is None or (tag & 4095) >= len(visit.bodies) or body != visit.passed(tag & 4095):
+                if (
+                    visit is None
+                    or (tag & 4095) >= len(visit.bodies)
+                    or body != visit.passed(tag & 4095)
+                ):
                     raise Wrong(f"nobody sent {body.hex()}")
                 if there.setdefault(client, visit) != visit:
                     raise Wrong(f"two clients have the number {client}")
@@ -465,20 +532,27 @@ class Round:
         self.judge_alone(visits, order)
 
     def judge_watcher(self, lines):
-        """A watcher of a gateway that was not killed is told all, of another one some first of it."""
+        """A watcher of a gateway that was not killed is told all, of another one some first of
+        it."""
         got = self.watcher.lines
         while len(got) > len(lines) and "restart" in got[-1]:
             got.pop()  # of a server that has ended before it was asked anything
         if self.kind not in ("gateway", "both") and len(got) != len(lines):
-            raise Wrong(f"who watches is told {len(got)} lines, not {len(lines)}: {got[-3:]}, {lines[len(got) - 3 :][:4]}")
+            raise Wrong(
+                f"who watches is told {len(got)} lines, not {len(lines)}: {got[-3:]}, "
+                f"{lines[len(got) - 3 :][:4]}"
+            )
         for place, line in enumerate(got):
             if place >= len(lines) or line != lines[place]:
                 raise Wrong(f"who watches is told {line}, not {lines[place : place + 1]}")
 
     def is_begin(self, body):
-        """Whether a body is what had come of the last line of a client that has gone in the middle of it: at its end a line is whole."""
+        """Whether a body is what had come of the last line of a client that has gone in the middle
+        of it: at its end a line is whole."""
         gone = [it for it in self.visits if it.kind == "listen-hex" and it.leaves is not None]
-        return any(len(body) < len(whole) and whole.startswith(body) for it in gone for whole in it.bodies)
+        return any(
+            len(body) < len(whole) and whole.startswith(body) for it in gone for whole in it.bodies
+        )
 
     def followed(self, asked, told):
         """From each state that the server may have begun with: those that it may have left."""
@@ -494,7 +568,8 @@ class Round:
 
     def judge_visit(self, visit, position, replies):
         last = -1
-        if self.kind == "stall" and visit.replies and visit.replies[-1] == STUB[4:]:  # what was refused is what had come of the next request
+        # what was refused is what had come of the next request
+        if self.kind == "stall" and visit.replies and visit.replies[-1] == STUB[4:]:
             visit.replies.pop()
         for serial, body in enumerate(visit.bodies):
             tag = visit.number << 12 | serial
@@ -505,7 +580,9 @@ class Round:
             if got is not None and visit.kind == "listen-read":
                 got = unpatched(body, got)
             if got is not None and (tag not in position or got != replies.get(tag)):
-                raise Wrong(f"the reply to {body.hex()} is {got.hex()}, not {replies.get(tag, b'').hex()}")
+                raise Wrong(
+                    f"the reply to {body.hex()} is {got.hex()}, not {replies.get(tag, b'').hex()}"
+                )
         if self.kind == "nothing" and len(visit.replies) != len(visit.bodies) and visit.half:
             raise Wrong(f"{len(visit.bodies)} requests have {len(visit.replies)} replies")
 
@@ -526,17 +603,24 @@ class Round:
                 places[tag >> 12].append(place)
         for number, those in places.items():
             if those[-1] - those[0] + 1 != len(those):
-                raise Wrong(f"somebody comes between two requests of the visit {number}, which is alone")
+                raise Wrong(
+                    f"somebody comes between two requests of the visit {number}, which is alone"
+                )
 
     def follow(self, answering, asked, told):
-        """The model through what one server was asked. Gives the states that it may have left: a group that was not answered is kept or not."""
+        """The model through what one server was asked. Gives the states that it may have left: a
+        group that was not answered is kept or not."""
         answering.forget_locks()
         place = heard = 0
         while heard < len(told) and place < len(asked):
             code = struct.unpack_from("<I", told[heard][1], 8)[0] if told[heard][1] else 0
             if code in (WRITE_FAULT, E_FAIL):
                 # (what is left of a request that did not come whole is refused as ever)
-                codes = [struct.unpack_from("<I", it, 8)[0] for _, it in told[heard:] if it and it != STUB]
+                codes = [
+                    struct.unpack_from("<I", it, 8)[0]
+                    for _, it in told[heard:]
+                    if it and it != STUB
+                ]
                 faults = codes.count(WRITE_FAULT)
                 if codes != [WRITE_FAULT] * faults + [E_FAIL] * (len(codes) - faults) or not faults:
                     raise Wrong(f"behind a device's fault the codes are {codes}")
@@ -544,7 +628,9 @@ class Round:
                 return self.left(answering, bodies)
             due = told_by(answering, *asked[place])
             if told[heard : heard + len(due)] != due[: len(told) - heard]:
-                raise Wrong(f"to {asked[place]} is told {told[heard : heard + len(due)]}, not {due}")
+                raise Wrong(
+                    f"to {asked[place]} is told {told[heard : heard + len(due)]}, not {due}"
+                )
             place, heard = place + 1, heard + len(due)
         if heard < len(told):
             raise Wrong(f"the server tells what was not asked: {told[heard:]}")
@@ -566,7 +652,9 @@ class Round:
     def check_store(self):
         """What the store holds now is one of the states that may be left."""
         room = self.gateway.room
-        Gateway.wait_for(lambda: b"in use" not in run_in(room, ["dump", "it.store"])[2], "the store stays in use")
+        Gateway.wait_for(
+            lambda: b"in use" not in run_in(room, ["dump", "it.store"])[2], "the store stays in use"
+        )
         status, out, err = run_in(room, ["dump", "it.store"])
         text = run_in(room, ["dump", "it.store", "--library"])[1]
         if status:
@@ -578,20 +666,46 @@ class Round:
 
 
 def rounds(first, count, tells=lambda *_: None):
-    """Plays rounds from a seed on, each ten over one store. Gives what was counted; raises Wrong."""
+    """Plays rounds from a seed on, each ten over one store. Gives what was counted; raises
+    Wrong."""
     seen = collections.Counter()
     for begin in range(first, first + count, 10):
         with tempfile.TemporaryDirectory() as room:
             with open(f"{room}/lib.idl", "wb") as file:
                 file.write(LIBRARY)
             with open(f"{room}/recorder", "w") as file:
-                file.write(RECORDER % (sys.executable, PROGRAM, PROGRAM, "ROOM", library("fails", FAILS)[0], PROGRAM))
+                file.write(
+                    RECORDER
+                    % (
+                        sys.executable,
+                        PROGRAM,
+                        PROGRAM,
+                        "ROOM",
+                        library("fails", FAILS)[0],
+                        PROGRAM,
+                    )
+                )
             os.chmod(f"{room}/recorder", 0o755)
             model = Replay().model
             LIBRARIES[LIBRARY] = model.library
             LIBRARIES[model.library.text()] = model.library
-            sockets = ("listen", "alone", "listen-hex", "listen-read", "control", "metrics", "watch")
-            with Gateway("--report", "0", sockets=sockets, starts=False, library=f"{room}/lib.idl", program=f"{room}/recorder") as gateway:
+            sockets = (
+                "listen",
+                "alone",
+                "listen-hex",
+                "listen-read",
+                "control",
+                "metrics",
+                "watch",
+            )
+            with Gateway(
+                "--report",
+                "0",
+                sockets=sockets,
+                starts=False,
+                library=f"{room}/lib.idl",
+                program=f"{room}/recorder",
+            ) as gateway:
                 gateway.usual = gateway.words
                 with open(f"{room}/recorder") as file:
                     text = file.read().replace("ROOM", gateway.room)
@@ -613,14 +727,26 @@ def rounds(first, count, tells=lambda *_: None):
                     seen["requests"] += sum(len(visit.bodies) for visit in it.visits)
                     seen["replies"] += sum(len(visit.replies) for visit in it.visits)
                     seen["watched"] += len(it.watcher.lines)
-                    seen["unanswered"] += sum(len(visit.bodies) - len(visit.replies) for visit in it.visits)
+                    seen["unanswered"] += sum(
+                        len(visit.bodies) - len(visit.replies) for visit in it.visits
+                    )
                     tells(seed, it.kind, seen)
     return seen
 
 
 if __name__ == "__main__":
-    parser = argparse.ArgumentParser(description=__doc__, formatter_class=argparse.RawDescriptionHelpFormatter)
+    parser = argparse.ArgumentParser(
+        description=__doc__, formatter_class=argparse.RawDescriptionHelpFormatter
+    )
     parser.add_argument("--seed", type=int, default=0, help="the first round's seed (0)")
     parser.add_argument("--rounds", type=int, default=20, help="how many (20)")
     given = parser.parse_args()
-    print(dict(rounds(given.seed, given.rounds, lambda seed, kind, seen: print(seed, kind, dict(seen), flush=True))))
+    print(
+        dict(
+            rounds(
+                given.seed,
+                given.rounds,
+                lambda seed, kind, seen: print(seed, kind, dict(seen), flush=True),
+            )
+        )
+    )

@@ -1,5 +1,7 @@
-"""A client that puts rising numbers over a URL, and connects again after each end: `python3 putting.py URL FILE`. It adds to FILE a line for each number that
-was acknowledged, and one that begins with `lost` where what it reads after an end is less than that. It ends once FILE.stop is there."""
+"""A client that puts rising numbers over a URL, and connects again after each end: `python3
+putting.py URL FILE`. It adds to FILE a line for each number that was acknowledged, and one that
+begins with `lost` where what it reads after an end is less than that. It ends once FILE.stop is
+there."""
 import os
 import sys
 

@@ -1,4 +1,5 @@
-"""The gateway, clients/gateway: many clients of one store. What it promises them is in docs/operations/gateway.md."""
+"""The gateway, clients/gateway: many clients of one store. What it promises them is in
+docs/operations/gateway.md."""
 import contextlib
 import fcntl
 import glob
@@ -17,17 +18,33 @@ import threading
 import time
 import unittest
 
-import wire
-from codes import ARRAY_IS_LOCKED, BAD_STUB, E_UNEXPECTED
-from gateways import FAILS, GATEWAY, LIBRARY, SECONDS, Gateway, bodies_of, built, compiled, hear, left_out, library, record, records, rest
-from ports import free_port, has_ipv6
-from preloaded import COMPILER
-from running import FULL as FULL_LIBRARY
-from running import CREATED, PROGRAM, ROOT, Cases, run_in
-from test_hostile_system import CUT
-from test_sessions import ANSWERED
-from tries import in_time, least
-from wire import oaut
+from tests.gateway.gateways import (
+    FAILS,
+    GATEWAY,
+    LIBRARY,
+    SECONDS,
+    Gateway,
+    bodies_of,
+    built,
+    compiled,
+    hear,
+    left_out,
+    library,
+    record,
+    records,
+    rest,
+)
+from tests.program.test_hostile_system import CUT
+from tests.program.test_sessions import ANSWERED
+from tests.support import wire
+from tests.support.codes import ARRAY_IS_LOCKED, BAD_STUB, E_UNEXPECTED
+from tests.support.ports import free_port, has_ipv6
+from tests.support.preloaded import COMPILER
+from tests.support.running import CREATED
+from tests.support.running import FULL as FULL_LIBRARY
+from tests.support.running import PROGRAM, ROOT, Cases, run_in
+from tests.support.tries import in_time, least
+from tests.support.wire import oaut
 
 needs_cc = unittest.skipUnless(COMPILER, "cc is not there")
 STUB = struct.pack("<IIII", 0, BAD_STUB, oaut.NO_INDEX, 0)
@@ -44,7 +61,9 @@ def reply(tag, code=0, fields=b""):
 
 
 def locking(tag, opcode, number, dispid=8, arguments=()):
-    return struct.pack("<I", tag) + oaut.ask_call(opcode, number, dispid, oaut.PROPERTYGET, [], list(arguments))
+    return struct.pack("<I", tag) + oaut.ask_call(
+        opcode, number, dispid, oaut.PROPERTYGET, [], list(arguments)
+    )
 
 
 def codes(data):
@@ -88,7 +107,11 @@ class Building(Cases):
         self.tell("the build", built("-O2")[1] == (0, ""), built("-O2")[1])
         needed = subprocess.run(["ldd", built("-O2")[0]], capture_output=True, text=True).stdout
         names = {line.split()[0] for line in needed.splitlines()}
-        self.tell("it needs the C library alone", all(it.startswith(("linux-vdso", "libc.so", "/lib")) for it in names), names)
+        self.tell(
+            "it needs the C library alone",
+            all(it.startswith(("linux-vdso", "libc.so", "/lib")) for it in names),
+            names,
+        )
 
     def test_the_library_is_missing(self):
         with tempfile.TemporaryDirectory() as room:
@@ -96,48 +119,121 @@ class Building(Cases):
             done = compiled([f"{room}/clients/gateway/build.sh", room], "-O1")
             self.tell(
                 "it says where the library is",
-                done[0] == 1 and "no liboa_gateway_c.a: copy it beside " in done[1] and "tools/gateway_library.py" in done[1],
+                done[0] == 1
+                and "no liboa_gateway_c.a: copy it beside " in done[1]
+                and "tools/gateway_library.py" in done[1],
                 done,
             )
             self.tell("there is no program", not os.path.exists(f"{room}/oaut-gateway"))
             shutil.copyfile(LIBRARY, f"{room}/clients/gateway/{os.path.basename(LIBRARY)}")
             done = compiled([f"{room}/clients/gateway/build.sh", room], "-O1")
-            self.tell("with the library beside it, it builds", done == (0, "") and os.path.exists(f"{room}/oaut-gateway"), done)
+            self.tell(
+                "with the library beside it, it builds",
+                done == (0, "") and os.path.exists(f"{room}/oaut-gateway"),
+                done,
+            )
 
     def test_a_benchmark_in_the_current_folder(self):
         """It begins there, and goes on in a folder of its own."""
         with tempfile.TemporaryDirectory() as room:
-            words = [sys.executable, f"{ROOT}/bench/gateway.py", PROGRAM, ".", "0.02", "1", "0", "SQLite"]
+            words = [
+                sys.executable,
+                f"{ROOT}/bench/gateway.py",
+                PROGRAM,
+                ".",
+                "0.02",
+                "1",
+                "0",
+                "SQLite",
+            ]
             done = subprocess.run(words, cwd=room, capture_output=True, text=True)
             self.tell("its rows", done.returncode == 0 and "| SQLite | " in done.stdout, done)
             self.tell("nothing is left there", os.listdir(room) == [], os.listdir(room))
-            code = "import sys; sys.argv[1:] = ['a', 'b']; from command_line import words; print(words('', folder='.', seconds=1.0))"
-            done = subprocess.run([sys.executable, "-c", code], cwd=room, env={**os.environ, "PYTHONPATH": f"{ROOT}/bench"}, capture_output=True, text=True)
+            code = (
+                "import sys; sys.argv[1:] = ['a', 'b']; from command_line import words; "
+                "print(words('', folder='.', seconds=1.0))"
+            )
+            done = subprocess.run(
+                [sys.executable, "-c", code],
+                cwd=room,
+                env={**os.environ, "PYTHONPATH": f"{ROOT}/bench"},
+                capture_output=True,
+                text=True,
+            )
             own = os.path.realpath(room)
-            self.tell("what any benchmark gets", done.stdout == f"['{own}/a', '{own}/b', 1.0]\n", done)
+            self.tell(
+                "what any benchmark gets", done.stdout == f"['{own}/a', '{own}/b', 1.0]\n", done
+            )
 
     def test_the_page_counts_lines(self):
-        lines = {os.path.basename(it): sum(1 for _ in open(it)) for it in glob.glob(f"{GATEWAY}/*.[ch]")}
+        lines = {
+            os.path.basename(it): sum(1 for _ in open(it)) for it in glob.glob(f"{GATEWAY}/*.[ch]")
+        }
         with open(f"{ROOT}/docs/operations/gateway.md") as file:
             text = file.read()
         counted = 0
-        for names, count in re.findall(r"(?m)^\| ((?:`\w+\.[ch]`(?:, )?)+) \|.*\| ([\d,]+) \|$", text):
+        for names, count in re.findall(
+            r"(?m)^\| ((?:`\w+\.[ch]`(?:, )?)+) \|.*\| ([\d,]+) \|$", text
+        ):
             names = re.findall(r"`(.*?)`", names)
             counted += len(names)
-            self.tell(f"the lines of {', '.join(names)}", int(count.replace(",", "")) == sum(lines[it] for it in names), sum(lines[it] for it in names))
+            self.tell(
+                f"the lines of {', '.join(names)}",
+                int(count.replace(",", "")) == sum(lines[it] for it in names),
+                sum(lines[it] for it in names),
+            )
         self.tell("all files", counted == len(lines), (counted, lines))
 
     def test_no_reply_goes_astray(self):
         """Made-up clients and a made-up server drive the part that knows of records and frames."""
-        flags = ["-g", "-O1", "-std=gnu11", "-D_GNU_SOURCE", '-DVERSION="0"', "-fsanitize=address,undefined", "-fno-sanitize-recover=all"]
+        flags = [
+            "-g",
+            "-O1",
+            "-std=gnu11",
+            "-D_GNU_SOURCE",
+            '-DVERSION="0"',
+            "-fsanitize=address,undefined",
+            "-fno-sanitize-recover=all",
+        ]
         with tempfile.TemporaryDirectory() as room:
             sources = [it for it in glob.glob(f"{GATEWAY}/*.c") if not it.endswith("/main.c")]
-            done = compiled(["cc", *flags, "-Dmain=gateway_main", "-c", f"{GATEWAY}/main.c", "-o", f"{room}/main.o"], "")
+            done = compiled(
+                [
+                    "cc",
+                    *flags,
+                    "-Dmain=gateway_main",
+                    "-c",
+                    f"{GATEWAY}/main.c",
+                    "-o",
+                    f"{room}/main.o",
+                ],
+                "",
+            )
             self.tell("the gateway is compiled", done == (0, ""), done)
-            done = compiled(["cc", *flags, f"{GATEWAY}/tests/fuzz.c", *sources, f"{room}/main.o", LIBRARY, "-o", f"{room}/fuzz"], "")
+            done = compiled(
+                [
+                    "cc",
+                    *flags,
+                    f"{GATEWAY}/tests/fuzz.c",
+                    *sources,
+                    f"{room}/main.o",
+                    LIBRARY,
+                    "-o",
+                    f"{room}/fuzz",
+                ],
+                "",
+            )
             self.tell("the driver is compiled", done == (0, ""), done)
-            done = subprocess.run([f"{room}/fuzz", "2000", os.environ.get("OAUT_SEED") or "1"], capture_output=True, text=True)
-            self.tell("two thousand inputs", done.returncode == 0 and " locks given back" in done.stdout, done.stderr[-2000:])
+            done = subprocess.run(
+                [f"{room}/fuzz", "2000", os.environ.get("OAUT_SEED") or "1"],
+                capture_output=True,
+                text=True,
+            )
+            self.tell(
+                "two thousand inputs",
+                done.returncode == 0 and " locks given back" in done.stdout,
+                done.stderr[-2000:],
+            )
 
 
 @needs_cc
@@ -156,25 +252,62 @@ class Framing(GatewayCases):
 
     def test_records(self):
         rows = [
-            ("a record that is cut, behind others", record(NONE) * 3 + record(b"1234")[:6], [NO_REQUEST] * 3 + [STUB]),
-            ("a length that is cut, behind others", record(NONE) * 3 + b"\1", [NO_REQUEST] * 3 + [STUB]),
-            ("a length that is too large, behind 2,000", record(NONE) * 2000 + struct.pack("<I", BODY_LIMIT + 1) + bytes(1000), [NO_REQUEST] * 2000 + [STUB]),
-            ("a length of 0, and more behind it", record(NONE) * 2 + bytes(4) + record(NONE), [NO_REQUEST] * 2),
+            (
+                "a record that is cut, behind others",
+                record(NONE) * 3 + record(b"1234")[:6],
+                [NO_REQUEST] * 3 + [STUB],
+            ),
+            (
+                "a length that is cut, behind others",
+                record(NONE) * 3 + b"\1",
+                [NO_REQUEST] * 3 + [STUB],
+            ),
+            (
+                "a length that is too large, behind 2,000",
+                record(NONE) * 2000 + struct.pack("<I", BODY_LIMIT + 1) + bytes(1000),
+                [NO_REQUEST] * 2000 + [STUB],
+            ),
+            (
+                "a length of 0, and more behind it",
+                record(NONE) * 2 + bytes(4) + record(NONE),
+                [NO_REQUEST] * 2,
+            ),
             ("a body without a tag", record(b"1234") + record(NONE), [STUB, NO_REQUEST]),
-            ("the longest body", record(NONE + bytes(BODY_LIMIT - 8)) + record(NONE), [NO_REQUEST] * 2),
-            ("requests that end groups themselves", (record(NONE) + record(ALONE)) * 700, [NO_REQUEST, reply(9, BAD_STUB)] * 700),
+            (
+                "the longest body",
+                record(NONE + bytes(BODY_LIMIT - 8)) + record(NONE),
+                [NO_REQUEST] * 2,
+            ),
+            (
+                "requests that end groups themselves",
+                (record(NONE) + record(ALONE)) * 700,
+                [NO_REQUEST, reply(9, BAD_STUB)] * 700,
+            ),
             ("more than fit a batch", record(NONE) * 5000, [NO_REQUEST] * 5000),
         ]
         for what, given, wanted in rows:
-            for ends in (True, False) if what.startswith(("a length of", "a length that is too")) else (True,):
+            for ends in (
+                (True, False)
+                if what.startswith(("a length of", "a length that is too"))
+                else (True,)
+            ):
                 got = self.gateway.ask(given, ends=ends)
-                self.tell(what, got == records(wanted), f"wanted {len(records(wanted))} bytes, got {len(got)}: {got[:64].hex()} .. {got[-40:].hex()}")
+                self.tell(
+                    what,
+                    got == records(wanted),
+                    f"wanted {len(records(wanted))} bytes, got {len(got)}: {got[:64].hex()} .. "
+                    f"{got[-40:].hex()}",
+                )
 
     def test_lines(self):
         line, answer = NONE.hex().encode() + b"\n", NO_REQUEST.hex().encode() + b"\n"
         stub = STUB.hex().encode() + b"\n"
         rows = [
-            ("lines of both cases, with CR and without an end", line + line.upper().replace(b"\n", b"\r\n") + line[:-1], answer * 3),
+            (
+                "lines of both cases, with CR and without an end",
+                line + line.upper().replace(b"\n", b"\r\n") + line[:-1],
+                answer * 3,
+            ),
             ("an empty line ends", line + b"\n" + line, answer),
             ("an empty line with a CR ends", line + b"\r\n" + line, answer),
             ("an odd number of digits ends", line + b"123\n" + line, answer),
@@ -183,7 +316,11 @@ class Framing(GatewayCases):
             ("a zero byte ends", b"01\x0002\n" + line, b""),
             ("one byte is a body", b"01\n" + line, stub + answer),
             ("the longest line", line[:-1] + b"00" * (BODY_LIMIT - 8) + b"\r\n" + line, answer * 2),
-            ("a line that is too long", line + b"0" * (2 * BODY_LIMIT + 1) + b"\n" + line, answer + stub),
+            (
+                "a line that is too long",
+                line + b"0" * (2 * BODY_LIMIT + 1) + b"\n" + line,
+                answer + stub,
+            ),
             ("1,000 lines", line * 1000, answer * 1000),
         ]
         for what, given, wanted in rows:
@@ -208,7 +345,9 @@ class Sharing(GatewayCases):
             item = one.create("Item")
             item.Count, item.Grid = 5, [1, 2, 3]
             same = two.object(item.number, "Item")
-            self.tell("what one puts another one gets", (same.Count, list(same.Grid)) == (5, [1, 2, 3]))
+            self.tell(
+                "what one puts another one gets", (same.Count, list(same.Grid)) == (5, [1, 2, 3])
+            )
             with one.batch() as batch:
                 for it in range(5000):
                     item.Count = it
@@ -218,7 +357,9 @@ class Sharing(GatewayCases):
             with two.batch(512):
                 seen = [same.Name for _ in range(100)]
             self.tell("100 long texts", all(len(it.value) == 500_000 for it in seen))
-            wider = FULL_LIBRARY.decode().replace("methods:", "[id(11)] BSTR Remark;\n    methods:", 1)
+            wider = FULL_LIBRARY.decode().replace(
+                "methods:", "[id(11)] BSTR Remark;\n    methods:", 1
+            )
             with open(f"{self.gateway.room}/next.idl", "w") as file:
                 file.write(wider)
             one.replace_library(f"{self.gateway.room}/next.idl")
@@ -235,22 +376,46 @@ class Sharing(GatewayCases):
                 same = two.object(item.number, "Item")
                 item.Grid.lock()
                 item.Grid.lock()
-                with self.subTest("another's put is refused"), self.assertRaises(oaut.ArrayIsLocked):
+                with self.subTest("another's put is refused"), self.assertRaises(
+                    oaut.ArrayIsLocked
+                ):
                     same.Grid = [4]
-                with self.subTest("another's lock is not to be given up"), self.assertRaises(oaut.Unexpected):
+                with self.subTest("another's lock is not to be given up"), self.assertRaises(
+                    oaut.Unexpected
+                ):
                     same.Grid.unlock()
                 item.Grid.unlock()
                 with self.subTest("one of two is left"), self.assertRaises(oaut.ArrayIsLocked):
                     same.Grid = [4]
+            self.eventually(
+                "its locks are given back as it goes",
+                lambda: setattr(same, "Grid", [4]),
+                oaut.ArrayIsLocked,
+            )
+
+    def test_locks_whose_client_has_gone(self):
+        with self.gateway.session() as two:
+            with self.gateway.session() as one:
+                item = one.create("Item")
+                item.Grid = [1, 2, 3]
+                same = two.object(item.number, "Item")
                 number = item.number
-            self.eventually("its locks are given back as it goes", lambda: setattr(same, "Grid", [4]), oaut.ArrayIsLocked)
             # locks that are with the server as their client goes
             for turn in range(60):
                 with self.gateway.dial() as sock:
-                    sock.sendall(record(locking(turn, oaut.LOCK, number)) * (1 + turn % 2) + record(locking(turn, oaut.UNLOCK, number)) * (turn % 4 == 3))
+                    sock.sendall(
+                        record(locking(turn, oaut.LOCK, number)) * (1 + turn % 2)
+                        + record(locking(turn, oaut.UNLOCK, number)) * (turn % 4 == 3)
+                    )
                     if turn % 3 == 0:
-                        sock.setsockopt(socket.SOL_SOCKET, socket.SO_LINGER, struct.pack("ii", 1, 0))
-            self.eventually("so are those that were with the server as it went", lambda: setattr(same, "Grid", [5]), oaut.ArrayIsLocked)
+                        sock.setsockopt(
+                            socket.SOL_SOCKET, socket.SO_LINGER, struct.pack("ii", 1, 0)
+                        )
+            self.eventually(
+                "so are those that were with the server as it went",
+                lambda: setattr(same, "Grid", [5]),
+                oaut.ArrayIsLocked,
+            )
             asked = [
                 locking(1, oaut.LOCK, number),
                 locking(2, oaut.UNLOCK, number),
@@ -260,9 +425,24 @@ class Sharing(GatewayCases):
                 locking(5, oaut.UNLOCK, number),
             ]
             got = codes(self.gateway.ask(records(asked)))
-            self.tell("LOCK, UNLOCK, UNLOCK, another, LOCK, UNLOCK at once", got == [(1, 0), (2, 0), (3, E_UNEXPECTED), (77, BAD_STUB), (4, 0), (5, 0)], got)
-            self.eventually("and none of these is left", lambda: setattr(same, "Grid", [6]), oaut.ArrayIsLocked)
-            # an UNLOCK that the server refuses (its riid is not zero), whose client has gone when that comes
+            self.tell(
+                "LOCK, UNLOCK, UNLOCK, another, LOCK, UNLOCK at once",
+                got == [(1, 0), (2, 0), (3, E_UNEXPECTED), (77, BAD_STUB), (4, 0), (5, 0)],
+                got,
+            )
+            self.eventually(
+                "and none of these is left", lambda: setattr(same, "Grid", [6]), oaut.ArrayIsLocked
+            )
+
+    def test_an_unlock_that_is_refused(self):
+        with self.gateway.session() as two:
+            with self.gateway.session() as one:
+                item = one.create("Item")
+                item.Grid = [1, 2, 3]
+                same = two.object(item.number, "Item")
+                number = item.number
+            # an UNLOCK that the server refuses (its riid is not zero), whose client has gone when
+            # that comes
             refused = bytearray(locking(2, oaut.UNLOCK, number))
             refused[32] = 1
             with self.gateway.dial() as sock:
@@ -271,12 +451,19 @@ class Sharing(GatewayCases):
                 server_process = self.gateway.server()
                 os.kill(server_process, signal.SIGSTOP)
                 sock.sendall(record(bytes(refused)))
-            Gateway.wait_for(lambda: self.gateway.counters()["oaut_gateway_clients"] == 1, "it has not gone")
+            Gateway.wait_for(
+                lambda: self.gateway.counters()["oaut_gateway_clients"] == 1, "it has not gone"
+            )
             os.kill(server_process, signal.SIGCONT)
-            self.eventually("nor is that of an UNLOCK that was refused", lambda: setattr(same, "Grid", [7]), oaut.ArrayIsLocked)
+            self.eventually(
+                "nor is that of an UNLOCK that was refused",
+                lambda: setattr(same, "Grid", [7]),
+                oaut.ArrayIsLocked,
+            )
 
     def test_locks_of_one_property_by_two(self):
-        """Two hold locks of different cells of one property: neither may give up the other's, in whatever words."""
+        """Two hold locks of different cells of one property: neither may give up the other's, in
+        whatever words."""
         key = lambda row: wire.scalar(wire.I2, row)
         text = """[uuid(11223344-5566-7788-99AA-BBCCDDEEFF01)] library Demo {
           [uuid(11223344-5566-7788-99AA-BBCCDDEEFF02)] dispinterface DItem {
@@ -285,7 +472,8 @@ class Sharing(GatewayCases):
               [id(4), propget] SAFEARRAY(CURRENCY) Sums([in] long Key);
               [id(4), propput] void Sums([in] long Key, [in] SAFEARRAY(CURRENCY) Value);
           };
-          [uuid(11223344-5566-7788-99AA-BBCCDDEEFF03)] coclass Item { [default] dispinterface DItem; };
+          [uuid(11223344-5566-7788-99AA-BBCCDDEEFF03)] coclass Item { [default] dispinterface \
+DItem; };
         };"""
         with tempfile.TemporaryDirectory() as room:
             with open(f"{room}/lib.idl", "w") as file:
@@ -300,10 +488,18 @@ class Sharing(GatewayCases):
                 sock.sendall(record(locking(row, oaut.LOCK, number, 4, [key(row)])))
                 self.tell(f"the lock of {row}", codes(hear(sock, 28)) == [(row, 0)])
             one.sendall(record(locking(3, oaut.UNLOCK, number, 4, [key(2)])))
-            self.tell("the other's lock of another key", codes(hear(one, 20)) == [(3, E_UNEXPECTED)])
+            self.tell(
+                "the other's lock of another key", codes(hear(one, 20)) == [(3, E_UNEXPECTED)]
+            )
             one.sendall(record(locking(4, oaut.UNLOCK, number, 4, [wire.scalar(wire.I4, 2)])))
             self.tell("the same in other words", codes(hear(one, 20)) == [(4, E_UNEXPECTED)])
-            put = oaut.ask_invoke(number, 4, oaut.PROPERTYPUT, [oaut.NEW_VALUE], [wire.array(wire.CY, [(1, 0)], [2]), key(2)])
+            put = oaut.ask_invoke(
+                number,
+                4,
+                oaut.PROPERTYPUT,
+                [oaut.NEW_VALUE],
+                [wire.array(wire.CY, [(1, 0)], [2]), key(2)],
+            )
             one.sendall(record(struct.pack("<I", 5) + put))
             self.tell("it is still locked", codes(hear(one, 20)) == [(5, ARRAY_IS_LOCKED)])
 
@@ -345,7 +541,8 @@ class Sharing(GatewayCases):
 
         def adds():
             turns = 0
-            while turns < 5 or (len(others) <= 5 and turns < 2_000):  # (a machine may be busy: the other one has to ask for its turns)
+            # (a machine may be busy: the other one has to ask for its turns)
+            while turns < 5 or (len(others) <= 5 and turns < 2_000):
                 turns += 1
                 with self.gateway.session("alone") as server:
                     mine = server.object(number, "Item")
@@ -362,7 +559,9 @@ class Sharing(GatewayCases):
             sharing.join()
         with self.gateway.session() as server:
             found = server.object(number, "Item").Count
-        self.tell("four that add 25 times each, alone", found == len(added) >= 100, (found, len(added)))
+        self.tell(
+            "four that add 25 times each, alone", found == len(added) >= 100, (found, len(added))
+        )
         self.tell("and others get their turn", len(others) > 5, len(others))
         with self.gateway.session("alone") as one:
             mine = one.object(number, "Item")
@@ -403,7 +602,20 @@ def together(act, count):
 
 @needs_cc
 class Bounds(GatewayCases):
-    words = ("--clients", "8", "--idle", "5", "--stalled", "8", "--hold", "1", "--memory", "16", "--report", "0.5")
+    words = (
+        "--clients",
+        "8",
+        "--idle",
+        "5",
+        "--stalled",
+        "8",
+        "--hold",
+        "1",
+        "--memory",
+        "16",
+        "--report",
+        "0.5",
+    )
 
     def dialled(self, *names):
         stack = contextlib.ExitStack()
@@ -414,7 +626,8 @@ class Bounds(GatewayCases):
         self.gateway.settles()
 
     def test_how_many(self):
-        with Gateway("--clients", "8") as gateway, contextlib.ExitStack() as stack:  # (no client of this one is let go for silence)
+        # (no client of this one is let go for silence)
+        with Gateway("--clients", "8") as gateway, contextlib.ExitStack() as stack:
             gateway.settles()
             eight = [stack.enter_context(gateway.dial()) for _ in range(8)]
             for it in eight:
@@ -426,7 +639,8 @@ class Bounds(GatewayCases):
 
     def test_silence(self):
         def seconds(name):
-            """How long one that is silent stays, from before its only request on: what is busy makes that longer, and never shorter."""
+            """How long one that is silent stays, from before its only request on: what is busy
+            makes that longer, and never shorter."""
             with self.gateway.dial(name) as sock:
                 begun = time.monotonic()
                 sock.sendall(record(NONE))
@@ -435,7 +649,8 @@ class Bounds(GatewayCases):
                 return time.monotonic() - begun
 
         def stays():
-            """Whether one that asks something each 0.2 s stays for longer than --idle and a second."""
+            """Whether one that asks something each 0.2 s stays for longer than --idle and a
+            second."""
             with self.gateway.dial() as sock, contextlib.suppress(OSError):
                 begun = time.monotonic()
                 while time.monotonic() - begun < 8:
@@ -456,13 +671,18 @@ class Bounds(GatewayCases):
     def test_a_request_in_parts(self):
         [sock] = self.dialled("listen")
         sock.sendall(record(NONE) + record(NONE)[:5])
-        self.tell("a request that does not come to its end is refused", rest(sock) == records([NO_REQUEST, STUB]))
+        self.tell(
+            "a request that does not come to its end is refused",
+            rest(sock) == records([NO_REQUEST, STUB]),
+        )
 
     def test_who_takes_no_replies(self):
         with Gateway("--stalled", "8") as gateway, gateway.session() as server:
             item = server.create("Item")
             item.Name, item.Count = "x" * 500_000, 1
-            get = record(struct.pack("<I", 1) + oaut.ask_invoke(item.number, 2, oaut.PROPERTYGET, [], []))
+            get = record(
+                struct.pack("<I", 1) + oaut.ask_invoke(item.number, 2, oaut.PROPERTYGET, [], [])
+            )
 
             def keeps_nobody_waiting():
                 """Whether another one's puts go on for 3 s, while it is there."""
@@ -478,19 +698,29 @@ class Bounds(GatewayCases):
                         item.Count = 2
                         longest = max(longest, time.monotonic() - since)
                     found = gateway.counters()
-                    self.tell("it gets no turn, and so no more replies", found["oaut_gateway_buffer_bytes"] < 12_000_000, found["oaut_gateway_buffer_bytes"])
-                    Gateway.wait_for(lambda: gateway.counters()["oaut_gateway_stalled_total"] == before + 1, "it is not let go")
+                    self.tell(
+                        "it gets no turn, and so no more replies",
+                        found["oaut_gateway_buffer_bytes"] < 12_000_000,
+                        found["oaut_gateway_buffer_bytes"],
+                    )
+                    Gateway.wait_for(
+                        lambda: gateway.counters()["oaut_gateway_stalled_total"] == before + 1,
+                        "it is not let go",
+                    )
                 return longest < 3 and found["oaut_gateway_stalled_total"] == before
 
             self.tell("who takes no replies keeps nobody waiting", in_time(keeps_nobody_waiting))
             self.tell("its end", gateway.end()[0] == 0)
 
     def test_memory(self):
-        """Six clients each leave a long request in parts, then ask for long texts that they do not take, first as new clients and then with a reply before it."""
+        """Six clients each leave a long request in parts, then ask for long texts that they do not
+        take, first as new clients and then with a reply before it."""
         with self.gateway.session() as server:
             item = server.create("Item")
             item.Name = "x" * 500_000
-            get = record(struct.pack("<I", 1) + oaut.ask_invoke(item.number, 2, oaut.PROPERTYGET, [], []))
+            get = record(
+                struct.pack("<I", 1) + oaut.ask_invoke(item.number, 2, oaut.PROPERTYGET, [], [])
+            )
             status = f"/proc/{self.gateway.process.pid}/statm"
             resident = lambda: int(open(status).read().split()[1]) * 4096
             before, most, most_buffers = resident(), 0, [0, 0, 0]
@@ -508,33 +738,55 @@ class Bounds(GatewayCases):
                             it.send(bytes(20_000))
                 begun = time.monotonic()
                 # (a busy machine may need longer until the first of them is seen)
-                while time.monotonic() - begun < 3 or (not most_buffers[turn] and time.monotonic() - begun < SECONDS):
+                while time.monotonic() - begun < 3 or (
+                    not most_buffers[turn] and time.monotonic() - begun < SECONDS
+                ):
                     most = max(most, resident() - before)
-                    most_buffers[turn] = max(most_buffers[turn], self.gateway.counters()["oaut_gateway_buffer_bytes"])
+                    most_buffers[turn] = max(
+                        most_buffers[turn], self.gateway.counters()["oaut_gateway_buffer_bytes"]
+                    )
                     time.sleep(0.05)
                 with self.gateway.dial() as other:
                     other.sendall(record(NONE))
                     self.tell("another one is served", hear(other, 20) == record(NO_REQUEST))
                 for it in socks:
                     it.close()
-                Gateway.wait_for(lambda: self.gateway.counters()["oaut_gateway_clients"] <= 1, "they have not gone")
-            # half of 16 MiB each way, what was read at once, and what each client has without asking; nobody knows how long the first replies of a client are, so
-            # these may have all of the memory
+                Gateway.wait_for(
+                    lambda: self.gateway.counters()["oaut_gateway_clients"] <= 1,
+                    "they have not gone",
+                )
+            # half of 16 MiB each way, what was read at once, and what each client has without
+            # asking; nobody knows how long the first replies of a client are, so these may have all
+            # of the memory
             for turn, bound in enumerate((14_000_000, 17 << 20, 14_000_000)):
-                self.tell(f"the clients' buffers keep their bound, {turn}", 0 < most_buffers[turn] <= bound, most_buffers)
-            self.tell("and so does the process, whose sanitizers keep what was freed for a while", most < 400 << 20, most)
+                self.tell(
+                    f"the clients' buffers keep their bound, {turn}",
+                    0 < most_buffers[turn] <= bound,
+                    most_buffers,
+                )
+            self.tell(
+                "and so does the process, whose sanitizers keep what was freed for a while",
+                most < 400 << 20,
+                most,
+            )
         with self.gateway.session() as server:
             server.object(item.number, "Item").Name = ""
 
     def test_a_line_for_the_journal(self):
         with self.gateway.session() as server:
             server.objects()
-        pattern = re.compile(r"^oaut-gateway: \d+ clients, [1-9]\d* requests in [1-9]\d* batches, ", re.M)
-        Gateway.wait_for(lambda: pattern.search(open(f"{self.gateway.room}/said").read()), "there is no line of it")
+        pattern = re.compile(
+            r"^oaut-gateway: \d+ clients, [1-9]\d* requests in [1-9]\d* batches, ", re.M
+        )
+        Gateway.wait_for(
+            lambda: pattern.search(open(f"{self.gateway.room}/said").read()),
+            "there is no line of it",
+        )
         self.tell("a line tells of clients, requests and batches", True)
 
 
-# a server whose group takes 12 ms, and that tells the gateway so 4 ms behind the replies, when their clients have long asked again; it tells how long behind that the next batch came
+# a server whose group takes 12 ms, and that tells the gateway so 4 ms behind the replies, when
+# their clients have long asked again; it tells how long behind that the next batch came
 LATE = r"""#!/usr/bin/env python3
 import os, struct, sys, time
 if sys.argv[1] == "dump":
@@ -550,7 +802,8 @@ while some := os.read(0, 65536):
         client, given = struct.unpack_from("<I", data)[0], data[8 : 8 + size]
         data = data[8 + size :]
         if size:
-            due.append(frame(client, struct.pack("<IIIII", 16, struct.unpack_from("<I", given, 4)[0], 0, 0xFFFFFFFF, 0)))
+            (tag,) = struct.unpack_from("<I", given, 4)
+            due.append(frame(client, struct.pack("<IIIII", 16, tag, 0, 0xFFFFFFFF, 0)))
         elif client == 0xFFFFFFFE:
             time.sleep(0.008 if due else 0)
             os.write(1, b"".join(due))
@@ -567,7 +820,8 @@ class Waiting(Cases):
     """A batch waits for those that were just answered, 2 ms at most, and for nobody else."""
 
     def waits(self, clients, asks):
-        """How long a batch waited behind an answer, at least, where so many ask together, and so many of them again."""
+        """How long a batch waited behind an answer, at least, where so many ask together, and so
+        many of them again."""
         with tempfile.TemporaryDirectory() as room, contextlib.ExitStack() as stack:
             open(f"{room}/it.store", "w").close()
             with open(f"{room}/late", "w") as file:
@@ -583,7 +837,11 @@ class Waiting(Cases):
                             hear(it, 20)
                 status, said = gateway.end()
         found = [float(it) for it in re.findall(r"(?m)^([\d.]+) ms$", said)]
-        self.tell(f"{clients} clients, {asks} of them again: its end", status == 0 and len(found) > 40, (status, said[-300:]))
+        self.tell(
+            f"{clients} clients, {asks} of them again: its end",
+            status == 0 and len(found) > 40,
+            (status, said[-300:]),
+        )
         return found
 
     def test_a_client_alone_waits_for_nobody(self):
@@ -594,7 +852,11 @@ class Waiting(Cases):
         found = least(1.5, lambda: min(self.waits(2, 2)))
         self.tell("two that ask again wait for each other alone", found < 1.5, found)
         found = self.waits(2, 1)
-        self.tell("one that does not ask again is waited for", sorted(found)[len(found) * 3 // 4] > 1.5, found)
+        self.tell(
+            "one that does not ask again is waited for",
+            sorted(found)[len(found) * 3 // 4] > 1.5,
+            found,
+        )
 
 
 @needs_cc
@@ -603,21 +865,33 @@ class Stops(Cases):
         found, said = gateway.end(with_)
         self.tell(
             name,
-            found == status and (says is None or re.search(says, said)) and "Sanitizer" not in said and "runtime error" not in said,
+            found == status
+            and (says is None or re.search(says, said))
+            and "Sanitizer" not in said
+            and "runtime error" not in said,
             f"wanted {status}, got {found}: {said}",
         )
 
     def test_sigterm_answers_what_has_come(self):
         with Gateway() as gateway, contextlib.ExitStack() as stack:
-            socks = [stack.enter_context(gateway.dial(name)) for name in ["listen"] * 10 + ["alone"] * 3]
+            socks = [
+                stack.enter_context(gateway.dial(name)) for name in ["listen"] * 10 + ["alone"] * 3
+            ]
             for it in socks:
                 it.sendall(record(NONE) * 300 + record(NONE)[:5])
             # (what comes with the signal is tried in test_gateway_behaviour)
-            Gateway.wait_for(lambda: gateway.counters()["oaut_gateway_received_bytes_total"] >= 13 * 3605, "the requests do not come")
+            Gateway.wait_for(
+                lambda: gateway.counters()["oaut_gateway_received_bytes_total"] >= 13 * 3605,
+                "the requests do not come",
+            )
             gateway.process.send_signal(signal.SIGTERM)
             for it in socks:
                 got = rest(it)
-                self.tell("300 that had come, and a part of one", got == records([NO_REQUEST] * 300), len(got))
+                self.tell(
+                    "300 that had come, and a part of one",
+                    got == records([NO_REQUEST] * 300),
+                    len(got),
+                )
             self.ended("its end", gateway, 0, with_=None)
             left = sorted(os.listdir(gateway.room))
             self.tell("no socket is left behind", left == ["it.store", "said"], left)
@@ -635,7 +909,9 @@ class Stops(Cases):
                     item.Grid.lock()
                     pid = Gateway.wait_for(gateway.server, "there is no server")
                     os.kill(pid, signal.SIGKILL)
-                    with self.subTest(f"who was connected is told, {turn}"), self.assertRaises((oaut.SessionEnded, OSError)):
+                    with self.subTest(f"who was connected is told, {turn}"), self.assertRaises(
+                        (oaut.SessionEnded, OSError)
+                    ):
                         for _ in range(3):
                             item.Count
                 if turn < 5:
@@ -643,23 +919,36 @@ class Stops(Cases):
                         item = server.object(number, "Item")
                         self.tell(f"it is started again, {turn}", item.Count == turn)
                         item.Grid = [2]
-            while time.monotonic() > begun + 45 and gateway.process.poll() is None:  # (these took longer than a minute, on a machine that is busy)
+            # (these took longer than a minute, on a machine that is busy)
+            while time.monotonic() > begun + 45 and gateway.process.poll() is None:
                 if pid := gateway.server():
                     os.kill(pid, signal.SIGKILL)
                 time.sleep(0.05)
-            self.ended("six times within a minute are too many", gateway, 3, "signal 9[^$]*5 times within a minute", with_=None)
+            self.ended(
+                "six times within a minute are too many",
+                gateway,
+                3,
+                "signal 9[^$]*5 times within a minute",
+                with_=None,
+            )
 
     def test_the_device_fails(self):
         with tempfile.TemporaryDirectory() as room:
             program = f"{room}/program"
             with open(program, "w") as file:
-                file.write(f'#!/bin/sh\n[ "$1" != serve ] || export LD_PRELOAD="{library("fails", FAILS)[0]}"\nexec "{PROGRAM}" "$@"\n')
+                file.write(
+                    '#!/bin/sh\n[ "$1" != serve ] || export '
+                    f'LD_PRELOAD="{library("fails", FAILS)[0]}"\nexec "{PROGRAM}" "$@"\n'
+                )
             os.chmod(program, 0o755)
             self.tell("all are told", in_time(lambda: self.device_fails(program)))
 
     def device_fails(self, program):
-        """Whether another client is told. The gateway ends a second or two after the fault, before which that one has to ask."""
-        with Gateway(program=program, SYNCS=80) as gateway, gateway.session() as server, gateway.session() as other:
+        """Whether another client is told. The gateway ends a second or two after the fault, before
+        which that one has to ask."""
+        with Gateway(
+            program=program, SYNCS=80
+        ) as gateway, gateway.session() as server, gateway.session() as other:
             item, last = server.create("Item"), None
             with self.subTest("what cannot be kept is told"), self.assertRaises(oaut.WriteFault):
                 for it in range(200):
@@ -685,14 +974,18 @@ class Stops(Cases):
         with Gateway() as gateway, gateway.session() as server:
             server.objects()
             with open(f"{gateway.room}/stub.py", "w") as file:
-                file.write("#!/usr/bin/env python3\nimport sys\nsys.exit(0 if sys.argv[1] == 'dump' else 5)\n")
+                file.write(
+                    "#!/usr/bin/env python3\nimport sys\nsys.exit(0 if sys.argv[1] == 'dump' else "
+                    "5)\n"
+                )
             os.chmod(f"{gateway.room}/stub.py", 0o755)
             with Gateway(program=f"{gateway.room}/stub.py") as other:
                 self.ended(
                     "a server that ends with status 5 is not started again",
                     other,
                     3,
-                    r"\Aoaut-gateway: the server has ended, by status 5\n.*not started again: read its messages, and check .*\n\Z",
+                    r"\Aoaut-gateway: the server has ended, by status 5\n"
+                    r".*not started again: read its messages, and check .*\n\Z",
                     with_=None,
                 )
         with Gateway(starts=False) as gateway:
@@ -702,7 +995,12 @@ class Stops(Cases):
             self.ended("a file that is no store", gateway, 3, "not a store", with_=None)
         for what, words, status, says in (
             ("no such program", ["--program", "/nowhere/oaut"], 1, "cannot run /nowhere/oaut"),
-            ("a socket that cannot be made", ["--listen", "/nowhere/socket"], 1, "cannot listen on /nowhere/socket"),
+            (
+                "a socket that cannot be made",
+                ["--listen", "/nowhere/socket"],
+                1,
+                "cannot listen on /nowhere/socket",
+            ),
         ):
             with Gateway(*words, starts=False) as gateway:
                 gateway.start()
@@ -710,7 +1008,8 @@ class Stops(Cases):
 
     def test_a_second_one(self):
         with Gateway() as first, tempfile.TemporaryDirectory() as room:
-            # a short wait for the store in place of ten seconds is no option: the other one waits while this goes on
+            # a short wait for the store in place of ten seconds is no option: the other one waits
+            # while this goes on
             os.link(first.store, f"{first.room}/same.store")
             second = Gateway(room=room, starts=False)
             second.words[-1] = f"{first.room}/same.store"
@@ -721,20 +1020,27 @@ class Stops(Cases):
             third.words[1:1] = ["--listen", f"{first.room}/listen"]
             with third:
                 third.start(waits=False)
-                self.ended("another one's socket is not taken away", third, 1, "cannot listen", with_=None)
+                self.ended(
+                    "another one's socket is not taken away", third, 1, "cannot listen", with_=None
+                )
             with first.session() as server:
                 self.tell("which is still there", len(server.objects()) == 1)
-            self.ended("the store has one gateway", second, 1, "in use by another process", with_=None)
+            self.ended(
+                "the store has one gateway", second, 1, "in use by another process", with_=None
+            )
             self.ended("its end", first, 0)
 
     def test_a_killed_one_is_followed(self):
         with Gateway(starts=False) as gateway:
             with open(gateway.store, "r+b") as file:
-                fcntl.flock(file, fcntl.LOCK_EX)  # as the server of one that was killed has it for a moment
+                # as the server of one that was killed has it for a moment
+                fcntl.flock(file, fcntl.LOCK_EX)
                 gateway.start(waits=False)
                 time.sleep(1)
                 self.tell("it waits for the store", gateway.process.poll() is None)
-            Gateway.wait_for(lambda: gateway.process.poll() is not None or gateway.answers(), "it does not serve")
+            Gateway.wait_for(
+                lambda: gateway.process.poll() is not None or gateway.answers(), "it does not serve"
+            )
             with gateway.session() as server:
                 number = server.create("Item").number
             for turn in range(3):
@@ -744,17 +1050,23 @@ class Stops(Cases):
                 gateway.process.wait()
                 gateway.start()
             with gateway.session() as server:
-                self.tell("what was acknowledged is there", server.object(number, "Item").Count == 2)
+                self.tell(
+                    "what was acknowledged is there", server.object(number, "Item").Count == 2
+                )
             self.ended("its end", gateway, 0)
 
 
 @needs_cc
 class Watching(Cases):
-    def test_backup(self):
+    def test_a_backup_under_load(self):
         with Gateway() as gateway:
             with gateway.session() as server:
                 numbers = [server.create("Item").number for _ in range(4)]
-            acknowledged, sent, stop = {it: 0 for it in numbers}, {it: 0 for it in numbers}, threading.Event()
+            acknowledged, sent, stop = (
+                {it: 0 for it in numbers},
+                {it: 0 for it in numbers},
+                threading.Event(),
+            )
 
             def puts(number):
                 with gateway.session() as server:
@@ -772,23 +1084,41 @@ class Watching(Cases):
                 for turn in range(3):
                     before = dict(acknowledged)
                     done = subprocess.run(
-                        [built()[0], "backup", f"{gateway.room}/control", f"{gateway.room}/copy"], capture_output=True, text=True, timeout=SECONDS
+                        [built()[0], "backup", f"{gateway.room}/control", f"{gateway.room}/copy"],
+                        capture_output=True,
+                        text=True,
+                        timeout=SECONDS,
                     )
                     after = dict(sent)
-                    told = re.fullmatch(r".*: held for \d+\.\d{3} s, (\d+) KiB had changed\n", done.stdout)
-                    # how long the clients waited is the machine's; that it was for a part of the store alone is not
+                    told = re.fullmatch(
+                        r".*: held for \d+\.\d{3} s, (\d+) KiB had changed\n", done.stdout
+                    )
+                    # how long the clients waited is the machine's; that it was for a part of the
+                    # store alone is not
                     few = told and int(told[1]) < os.path.getsize(gateway.store) >> 11
                     self.tell(f"a backup under load, {turn}", done.returncode == 0 and few, done)
                     status, out, err = run_in(gateway.room, ["dump", "copy"])
                     found = {
-                        number: int.from_bytes(bytes.fromhex(it.decode())[2:], "little") for number, it in zip(numbers, re.findall(rb" 1 - (0300\w{8})\n", out))
+                        number: int.from_bytes(bytes.fromhex(it.decode())[2:], "little")
+                        for number, it in zip(numbers, re.findall(rb" 1 - (0300\w{8})\n", out))
                     }
-                    well = status == 0 and set(found) == set(numbers) and all(before[it] <= found[it] <= after[it] for it in numbers)
-                    self.tell(f"it opens to what was acknowledged before, {turn}", well, (err, before, found, after))
+                    well = (
+                        status == 0
+                        and set(found) == set(numbers)
+                        and all(before[it] <= found[it] <= after[it] for it in numbers)
+                    )
+                    self.tell(
+                        f"it opens to what was acknowledged before, {turn}",
+                        well,
+                        (err, before, found, after),
+                    )
             finally:
                 stop.set()
                 for it in threads:
                     it.join()
+
+    def test_one_backup_at_a_time(self):
+        with Gateway() as gateway:
             with gateway.dial("control") as one, gateway.dial("control") as two:
                 one.sendall(b"hold\n")
                 self.tell("a backup that holds", hear(one, 5) == b"held\n")
@@ -797,15 +1127,36 @@ class Watching(Cases):
                 with gateway.dial() as waits:
                     waits.sendall(record(NONE))
                     waits.settimeout(0.2)
-                    with self.subTest("nothing is sent meanwhile"), self.assertRaises(socket.timeout):
+                    with self.subTest("nothing is sent meanwhile"), self.assertRaises(
+                        socket.timeout
+                    ):
                         waits.recv(1)
                     one.close()
                     waits.settimeout(SECONDS)
                     self.tell("it has hung up", hear(waits, 20) == record(NO_REQUEST))
-            done = subprocess.run([built()[0], "backup", f"{gateway.room}/control", "/nowhere/copy"], capture_output=True, text=True)
-            self.tell("a backup that cannot be written", (done.returncode, "cannot write /nowhere/copy: " in done.stderr) == (1, True), done)
-            done = subprocess.run([built()[0], "backup", f"{gateway.room}/none", "copy"], capture_output=True, text=True)
-            self.tell("a gateway that is not there", (done.returncode, "cannot connect" in done.stderr) == (1, True), done)
+
+    def test_backups_that_cannot_be_made(self):
+        with Gateway() as gateway:
+            done = subprocess.run(
+                [built()[0], "backup", f"{gateway.room}/control", "/nowhere/copy"],
+                capture_output=True,
+                text=True,
+            )
+            self.tell(
+                "a backup that cannot be written",
+                (done.returncode, "cannot write /nowhere/copy: " in done.stderr) == (1, True),
+                done,
+            )
+            done = subprocess.run(
+                [built()[0], "backup", f"{gateway.room}/none", "copy"],
+                capture_output=True,
+                text=True,
+            )
+            self.tell(
+                "a gateway that is not there",
+                (done.returncode, "cannot connect" in done.stderr) == (1, True),
+                done,
+            )
 
     def test_metrics(self):
         with Gateway() as gateway:
@@ -814,34 +1165,119 @@ class Watching(Cases):
                 item.Count = 1
                 with contextlib.suppress(oaut.TypeMismatch):
                     item.Count = "x"
-                got = gateway.ask(b"GET /metrics HTTP/1.1\r\nHost: x\r\n\r\n", "metrics", ends=False).decode()
+                got = gateway.ask(
+                    b"GET /metrics HTTP/1.1\r\nHost: x\r\n\r\n", "metrics", ends=False
+                ).decode()
             head, _, text = got.partition("\r\n\r\n")
-            self.tell("the head", head.startswith("HTTP/1.0 200 OK\r\nContent-Type: text/plain; version=0.0.4"), head)
+            self.tell(
+                "the head",
+                head.startswith("HTTP/1.0 200 OK\r\nContent-Type: text/plain; version=0.0.4"),
+                head,
+            )
             for line in text.splitlines():
-                well = re.fullmatch(r'# (HELP|TYPE) oaut_(gateway|store)_\w+ .+|oaut_(gateway|store)_\w+(\{\w+="[^"]+"\})? [-+.0-9e]+', line)
+                well = re.fullmatch(
+                    r"# (HELP|TYPE) oaut_(gateway|store)_\w+ "
+                    r'.+|oaut_(gateway|store)_\w+(\{\w+="[^"]+"\})? [-+.0-9e]+',
+                    line,
+                )
                 if not well:
                     self.tell("each line is one of the format", False, line)
-            found = {name: float(value) for name, value in (line.rsplit(" ", 1) for line in text.splitlines() if not line.startswith("#"))}
-            for name, value in {"clients": 1, "connections_total": 2, "server_starts_total": 1, 'refused_total{code="0x80020005"}': 1, "faulted": 0}.items():
-                self.tell(name, found.get(f"oaut_gateway_{name}") == value, found.get(f"oaut_gateway_{name}"))
+            found = {
+                name: float(value)
+                for name, value in (
+                    line.rsplit(" ", 1) for line in text.splitlines() if not line.startswith("#")
+                )
+            }
+            for name, value in {
+                "clients": 1,
+                "connections_total": 2,
+                "server_starts_total": 1,
+                'refused_total{code="0x80020005"}': 1,
+                "faulted": 0,
+            }.items():
+                self.tell(
+                    name,
+                    found.get(f"oaut_gateway_{name}") == value,
+                    found.get(f"oaut_gateway_{name}"),
+                )
+            self.tell(
+                "another path",
+                gateway.ask(b"GET / HTTP/1.1\r\n\r\n", "metrics", ends=False).startswith(
+                    b"HTTP/1.0 404"
+                ),
+            )
+            self.tell("status tells the same", set(gateway.counters()) >= set(found), "")
+
+    def test_each_of_the_metrics_has_a_type(self):
+        with Gateway() as gateway:
+            with gateway.session() as server:
+                item = server.create("Item")
+                item.Count = 1
+                with contextlib.suppress(oaut.TypeMismatch):
+                    item.Count = "x"
+                got = gateway.ask(
+                    b"GET /metrics HTTP/1.1\r\nHost: x\r\n\r\n", "metrics", ends=False
+                ).decode()
+            head, _, text = got.partition("\r\n\r\n")
+            found = {
+                name: float(value)
+                for name, value in (
+                    line.rsplit(" ", 1) for line in text.splitlines() if not line.startswith("#")
+                )
+            }
             told = [line.split()[2] for line in text.splitlines() if line.startswith("# TYPE")]
             self.tell(
-                "each is told once, and each has a type", len(set(told)) == len(told) and all(any(it.startswith(name) for name in told) for it in found), told
+                "each is told once, and each has a type",
+                len(set(told)) == len(told)
+                and all(any(it.startswith(name) for name in told) for it in found),
+                told,
             )
-            buckets = [value for name, value in found.items() if name.startswith("oaut_gateway_commit_seconds_bucket")]
-            self.tell("the buckets rise to the count", buckets == sorted(buckets) and buckets[-1] == found["oaut_gateway_commit_seconds_count"] > 0, buckets)
-            self.tell("another path", gateway.ask(b"GET / HTTP/1.1\r\n\r\n", "metrics", ends=False).startswith(b"HTTP/1.0 404"))
+            buckets = [
+                value
+                for name, value in found.items()
+                if name.startswith("oaut_gateway_commit_seconds_bucket")
+            ]
+            self.tell(
+                "the buckets rise to the count",
+                buckets == sorted(buckets)
+                and buckets[-1] == found["oaut_gateway_commit_seconds_count"] > 0,
+                buckets,
+            )
+
+    def test_the_dashboard(self):
+        with Gateway() as gateway:
+            with gateway.session() as server:
+                item = server.create("Item")
+                item.Count = 1
+                with contextlib.suppress(oaut.TypeMismatch):
+                    item.Count = "x"
+                got = gateway.ask(
+                    b"GET /metrics HTTP/1.1\r\nHost: x\r\n\r\n", "metrics", ends=False
+                ).decode()
+            head, _, text = got.partition("\r\n\r\n")
+            found = {
+                name: float(value)
+                for name, value in (
+                    line.rsplit(" ", 1) for line in text.splitlines() if not line.startswith("#")
+                )
+            }
             dashboard = json.load(open(f"{ROOT}/dist/grafana.json"))
             asked = {
-                it for panel in dashboard["panels"] for target in panel.get("targets", []) for it in re.findall(r"oaut_(?:gateway|store)_\w+", target["expr"])
+                it
+                for panel in dashboard["panels"]
+                for target in panel.get("targets", [])
+                for it in re.findall(r"oaut_(?:gateway|store)_\w+", target["expr"])
             }
             there = {it.split("{")[0] for it in (*found, *gateway.counters())}
-            self.tell("the dashboard asks for what is told", asked and asked <= there, asked - there)
-            self.tell("status tells the same", set(gateway.counters()) >= set(found), "")
+            self.tell(
+                "the dashboard asks for what is told", asked and asked <= there, asked - there
+            )
 
     def test_systemd(self):
         """Sockets that are handed over, and what is told to who starts it."""
-        with tempfile.TemporaryDirectory() as room, socket.socket(socket.AF_UNIX, socket.SOCK_DGRAM) as notified:
+        with tempfile.TemporaryDirectory() as room, socket.socket(
+            socket.AF_UNIX, socket.SOCK_DGRAM
+        ) as notified:
             notified.bind(f"{room}/notify")
             notified.settimeout(SECONDS)
             names = ["it", "alone", "hex", "control"]
@@ -849,16 +1285,27 @@ class Watching(Cases):
             for name, it in zip(names, socks):
                 it.bind(f"{room}/{name}")
                 it.listen()
-            with Gateway(sockets=(), starts=False, NOTIFY_SOCKET=f"{room}/notify", LISTEN_FDNAMES=":".join(names)) as gateway:
+            with Gateway(
+                sockets=(),
+                starts=False,
+                NOTIFY_SOCKET=f"{room}/notify",
+                LISTEN_FDNAMES=":".join(names),
+            ) as gateway:
                 high = [fcntl.fcntl(it, fcntl.F_DUPFD, 100) for it in socks]
                 redirect = " ".join(f"{3 + at}<&{it} {it}<&-" for at, it in enumerate(high))
+                code = f'export LISTEN_PID=$$ LISTEN_FDS={len(socks)}; exec "$@" {redirect}'
                 gateway.process = subprocess.Popen(
-                    ["bash", "-c", f'export LISTEN_PID=$$ LISTEN_FDS={len(socks)}; exec "$@" {redirect}', "bash", *gateway.words],
-                    env={**os.environ, **gateway.variables}, stderr=open(f"{gateway.room}/said", "wb"), pass_fds=high,
-                )  # fmt: skip
+                    ["bash", "-c", code, "bash", *gateway.words],
+                    env={**os.environ, **gateway.variables},
+                    stderr=open(f"{gateway.room}/said", "wb"),
+                    pass_fds=high,
+                )
                 for it in high:
                     os.close(it)
-                Gateway.wait_for(lambda: notified.recv(500).startswith(b"READY=1\nSTATUS=serving "), "it does not say that it is ready")
+                Gateway.wait_for(
+                    lambda: notified.recv(500).startswith(b"READY=1\nSTATUS=serving "),
+                    "it does not say that it is ready",
+                )
                 self.tell("it says that it is ready", True)
                 gateway.room, own = room, gateway.room
                 for name, given, wanted in (
@@ -868,44 +1315,101 @@ class Watching(Cases):
                 ):
                     self.tell(f"the socket {name}", gateway.ask(given, name) == wanted)
                 self.tell("the socket control", "oaut_gateway_clients" in gateway.counters())
-                Gateway.wait_for(lambda: notified.recv(500) == b"WATCHDOG=1", "it does not say that it lives")
+                Gateway.wait_for(
+                    lambda: notified.recv(500) == b"WATCHDOG=1", "it does not say that it lives"
+                )
                 gateway.room = own
                 gateway.process.terminate()
-                Gateway.wait_for(lambda: notified.recv(500) == b"STOPPING=1", "it does not say that it stops")
+                Gateway.wait_for(
+                    lambda: notified.recv(500) == b"STOPPING=1", "it does not say that it stops"
+                )
                 status, said = gateway.end(None)
                 self.tell("its end", status == 0, said)
-                self.tell("the sockets are left to systemd", sorted(os.listdir(room)) == sorted([*names, "notify"]), os.listdir(room))
+                self.tell(
+                    "the sockets are left to systemd",
+                    sorted(os.listdir(room)) == sorted([*names, "notify"]),
+                    os.listdir(room),
+                )
             for it in socks:
                 it.close()
 
 
 @needs_cc
 class Noise(Cases):
+    def spoiled(self, dice, name, bodies):
+        """Some of these bodies, or of a socket's texts, of which some bytes are others."""
+        texts = [
+            b"status\n",
+            b"hold\n",
+            b"free\n",
+            b"store\n",
+            b"GET /metrics HTTP/1.1\r\n\r\n",
+            b"GET / HTTP/1.1\r\n\r\n",
+            b"\n",
+            b"\r\n\r\n",
+        ]
+        some = dice.choices(bodies, k=dice.randrange(1, 9))
+        data = (
+            b"".join(dice.choices(texts, k=2))
+            if name in ("control", "metrics")
+            else b"".join(it.hex().encode() + b"\n" for it in some)
+            if name == "listen-hex"
+            else records(some)
+        )
+        data = bytearray(data)
+        for _ in range(dice.choice([0, 0, 1, 3])):
+            data[dice.randrange(len(data))] = dice.choice(
+                [0, 10, 13, 0x30, 255, dice.randrange(256)]
+            )
+        return data
+
+    def is_served(self, gateway, number):
+        """Whether a client gets its turn behind those that have gone, whose locks are given back."""
+        served, until = False, time.monotonic() + SECONDS
+        # until who has gone has left its place, and its locks are given back
+        while not served and time.monotonic() < until:
+            with contextlib.suppress(
+                oaut.SessionEnded, oaut.ArrayIsLocked
+            ), gateway.session() as server:
+                item = server.object(number, "Item")
+                try:
+                    item.Grid = [3]
+                except oaut.Disconnected:
+                    # (by a spoiled request, a lock that became a release)
+                    number = server.create("Item").number
+                    continue
+                served = list(item.Grid) == [3]
+            time.sleep(0.01)
+        return served
+
     def test_random_bytes(self):
-        """Spoiled requests at every socket, in pieces, by who hangs up in some way; beside them a client that is served. OAUT_NOISE says for how many seconds,
-        OAUT_SOCKETS at which sockets."""
-        names = (os.environ.get("OAUT_SOCKETS") or "listen listen listen-hex alone control metrics").split()
-        seconds, dice = float(os.environ.get("OAUT_NOISE") or 4), random.Random(os.environ.get("OAUT_SEED") or 1)
-        with Gateway("--stalled", "2", "--hold", "1", "--memory", "16", "--clients", "40") as gateway:
+        """Spoiled requests at every socket, in pieces, by who hangs up in some way; beside them a
+        client that is served. OAUT_NOISE says for how many seconds, OAUT_SOCKETS at which
+        sockets."""
+        names = (
+            os.environ.get("OAUT_SOCKETS") or "listen listen listen-hex alone control metrics"
+        ).split()
+        seconds, dice = float(os.environ.get("OAUT_NOISE") or 4), random.Random(
+            os.environ.get("OAUT_SEED") or 1
+        )
+        with Gateway(
+            "--stalled", "2", "--hold", "1", "--memory", "16", "--clients", "40"
+        ) as gateway:
             with gateway.session() as server:
                 item = server.create("Item")
                 item.Grid, number = [1, 2], item.number
-            bodies = [NONE, ALONE, b"1", locking(1, oaut.LOCK, number), locking(2, oaut.UNLOCK, number), struct.pack("<IHH", 3, 11, 0)]
-            texts = [b"status\n", b"hold\n", b"free\n", b"store\n", b"GET /metrics HTTP/1.1\r\n\r\n", b"GET / HTTP/1.1\r\n\r\n", b"\n", b"\r\n\r\n"]
+            bodies = [
+                NONE,
+                ALONE,
+                b"1",
+                locking(1, oaut.LOCK, number),
+                locking(2, oaut.UNLOCK, number),
+                struct.pack("<IHH", 3, 11, 0),
+            ]
             begun, sent, socks = time.monotonic(), 0, []
             while time.monotonic() < begun + seconds or sent <= 10:
                 name = dice.choice(names)
-                some = dice.choices(bodies, k=dice.randrange(1, 9))
-                data = (
-                    b"".join(dice.choices(texts, k=2))
-                    if name in ("control", "metrics")
-                    else b"".join(it.hex().encode() + b"\n" for it in some)
-                    if name == "listen-hex"
-                    else records(some)
-                )
-                data = bytearray(data)
-                for _ in range(dice.choice([0, 0, 1, 3])):
-                    data[dice.randrange(len(data))] = dice.choice([0, 10, 13, 0x30, 255, dice.randrange(256)])
+                data = self.spoiled(dice, name, bodies)
                 with contextlib.suppress(OSError):
                     sock = gateway.dial(name)
                     socks.append(sock)
@@ -920,34 +1424,32 @@ class Noise(Cases):
                 while len(socks) > 20 or (socks and dice.random() < 0.5):
                     sock = socks.pop(dice.randrange(len(socks)))
                     if dice.random() < 0.3:
-                        sock.setsockopt(socket.SOL_SOCKET, socket.SO_LINGER, struct.pack("ii", 1, 0))
+                        sock.setsockopt(
+                            socket.SOL_SOCKET, socket.SO_LINGER, struct.pack("ii", 1, 0)
+                        )
                     sock.close()
             for it in socks:
                 it.close()
-            served, until = False, time.monotonic() + SECONDS
-            while not served and time.monotonic() < until:  # until who has gone has left its place, and its locks are given back
-                with contextlib.suppress(oaut.SessionEnded, oaut.ArrayIsLocked), gateway.session() as server:
-                    item = server.object(number, "Item")
-                    try:
-                        item.Grid = [3]
-                    except oaut.Disconnected:  # (by a spoiled request, a lock that became a release)
-                        number = server.create("Item").number
-                        continue
-                    served = list(item.Grid) == [3]
-                time.sleep(0.01)
+            served = self.is_served(gateway, number)
             self.tell("a client is served behind it", served and sent > 10, (served, sent))
             status, said = gateway.end()
-            self.tell("its end", status == 0 and "Sanitizer" not in said and "runtime error" not in said, said[-2000:])
+            self.tell(
+                "its end",
+                status == 0 and "Sanitizer" not in said and "runtime error" not in said,
+                said[-2000:],
+            )
 
 
 def told_of(*words, **how):
-    done = subprocess.run([built()[0], *words], capture_output=True, text=True, timeout=SECONDS, **how)
+    done = subprocess.run(
+        [built()[0], *words], capture_output=True, text=True, timeout=SECONDS, **how
+    )
     return done.returncode, done.stdout, done.stderr
 
 
 @needs_cc
 class CommandLine(Cases):
-    def test_words(self):
+    def test_words_that_are_refused(self):
         rows = [
             ("no words", [], "one STORE"),
             ("two stores", ["--listen", "./s", "a", "b"], "one STORE"),
@@ -955,16 +1457,58 @@ class CommandLine(Cases):
             ("a control socket alone", ["--control", "./c", "a.store"], "no socket of clients"),
             ("no such option", ["--none", "1", "a.store"], "no such option"),
             ("no value", ["--listen"], "no such option, or no such value"),
-            ("neither path nor port", ["--listen", "there", "a.store"], "neither a path nor HOST:PORT"),
-            ("a port that is none", ["--listen", "127.0.0.1:x", "a.store"], "neither a path nor HOST:PORT"),
-            ("a name of a host", ["--listen", "example.org:80", "a.store"], "neither a path nor HOST:PORT"),
+            (
+                "neither path nor port",
+                ["--listen", "there", "a.store"],
+                "neither a path nor HOST:PORT",
+            ),
+            (
+                "a port that is none",
+                ["--listen", "127.0.0.1:x", "a.store"],
+                "neither a path nor HOST:PORT",
+            ),
+            (
+                "a name of a host",
+                ["--listen", "example.org:80", "a.store"],
+                "neither a path nor HOST:PORT",
+            ),
             ("another host", ["--listen", "192.0.2.1:8765", "a.store"], "not of the loopback"),
             ("all hosts", ["--listen", "0.0.0.0:8765", "a.store"], "not of the loopback"),
             ("all hosts, IPv6", ["--alone", "[::]:8765", "a.store"], "not of the loopback"),
-            ("metrics for all", ["--listen", "./s", "--metrics", "0.0.0.0:9718", "a.store"], "not of the loopback"),
-            ("a control socket of TCP", ["--listen", "./s", "--control", "127.0.0.1:9719", "a.store"], "--control needs a path"),
-            ("users of TCP", ["--allow-user", "root", "--listen", "127.0.0.1:8765", "a.store"], "TCP clients have no user"),
-            ("no such user", ["--allow-user", "nobody-of-this-name", "--listen", "./s", "a.store"], "no such value"),
+            (
+                "metrics for all",
+                ["--listen", "./s", "--metrics", "0.0.0.0:9718", "a.store"],
+                "not of the loopback",
+            ),
+        ]
+        for what, words, says in rows:
+            status, out, err = told_of(*words)
+            self.tell(
+                what,
+                (status, out) == (2, "")
+                and err.startswith("oaut-gateway: ")
+                and says in err
+                and err.count("\n") == 1,
+                (status, out, err),
+            )
+
+    def test_values_that_are_refused(self):
+        rows = [
+            (
+                "a control socket of TCP",
+                ["--listen", "./s", "--control", "127.0.0.1:9719", "a.store"],
+                "--control needs a path",
+            ),
+            (
+                "users of TCP",
+                ["--allow-user", "root", "--listen", "127.0.0.1:8765", "a.store"],
+                "TCP clients have no user",
+            ),
+            (
+                "no such user",
+                ["--allow-user", "nobody-of-this-name", "--listen", "./s", "a.store"],
+                "no such value",
+            ),
             ("a mode that is none", ["--mode", "9", "--listen", "./s", "a.store"], "no such value"),
             ("no clients", ["--clients", "0", "--listen", "./s", "a.store"], "no such value"),
             ("too little memory", ["--memory=1", "--listen", "./s", "a.store"], "no such value"),
@@ -974,25 +1518,46 @@ class CommandLine(Cases):
             ("no number of seconds", ["probe", "./s", "x"], "no number of seconds"),
             ("no time", ["probe", "./s", "0"], "no number of seconds"),
             ("too much time", ["probe", "./s", "1000001"], "no number of seconds"),
-            ("a page without its socket", ["--view", "127.0.0.1:0", "--alone", "./s", "--listen-hex", "./h", "a.store"], "--view needs a --listen"),
+            (
+                "a page without its socket",
+                ["--view", "127.0.0.1:0", "--alone", "./s", "--listen-hex", "./h", "a.store"],
+                "--view needs a --listen",
+            ),
             ("no rights", ["--mode=", "--listen", "./s", "a.store"], "no such value"),
         ]
         for what, words, says in rows:
             status, out, err = told_of(*words)
-            self.tell(what, (status, out) == (2, "") and err.startswith("oaut-gateway: ") and says in err and err.count("\n") == 1, (status, out, err))
+            self.tell(
+                what,
+                (status, out) == (2, "")
+                and err.startswith("oaut-gateway: ")
+                and says in err
+                and err.count("\n") == 1,
+                (status, out, err),
+            )
+
+    def test_help_and_version(self):
         status, out, err = told_of("--help")
         with open(f"{ROOT}/docs/operations/gateway.md") as file:
             page = file.read()
         options = re.findall(r"--[a-z-]+", out)
         self.tell(
-            "help", (status, err) == (0, "") and len(options) > 14 and all(f"`{it}" in page for it in options), [it for it in options if f"`{it}" not in page]
+            "help",
+            (status, err) == (0, "")
+            and len(options) > 14
+            and all(f"`{it}" in page for it in options),
+            [it for it in options if f"`{it}" not in page],
         )
         self.tell("version", told_of("--version")[0::2] == (0, ""))
         self.tell("no such store", told_of("--listen", "./s", "/nowhere/a.store")[:2] == (1, ""))
 
     def test_addresses(self):
         port = free_port()
-        for address, family in ((f"127.0.0.1:{port}", socket.AF_INET), (f"[::1]:{port}", socket.AF_INET6), (f"localhost:{port}", socket.AF_INET)):
+        for address, family in (
+            (f"127.0.0.1:{port}", socket.AF_INET),
+            (f"[::1]:{port}", socket.AF_INET6),
+            (f"localhost:{port}", socket.AF_INET),
+        ):
             if family == socket.AF_INET6 and not has_ipv6():
                 continue
             with Gateway(f"--listen={address}") as gateway, socket.socket(family) as sock:
@@ -1007,33 +1572,63 @@ class CommandLine(Cases):
         """The gateway says so, before it looks for the store."""
         with contextlib.ExitStack() as stack, tempfile.TemporaryDirectory() as room:
             connected, _ = map(stack.enter_context, socket.socketpair())
-            bound, datagrams = (stack.enter_context(socket.socket(socket.AF_UNIX, it)) for it in (socket.SOCK_STREAM, socket.SOCK_DGRAM))
+            bound, datagrams = (
+                stack.enter_context(socket.socket(socket.AF_UNIX, it))
+                for it in (socket.SOCK_STREAM, socket.SOCK_DGRAM)
+            )
             for name, it in (("bound", bound), ("datagrams", datagrams)):
                 it.bind(f"{room}/{name}")
             file = stack.enter_context(open(os.devnull))
-            for what, it in (("a connection", connected), ("a socket that does not listen yet", bound), ("datagrams", datagrams), ("a file", file)):
+            for what, it in (
+                ("a connection", connected),
+                ("a socket that does not listen yet", bound),
+                ("datagrams", datagrams),
+                ("a file", file),
+            ):
                 high = fcntl.fcntl(it.fileno(), fcntl.F_DUPFD, 100)
                 script = f'export LISTEN_PID=$$ LISTEN_FDS=1; exec "$@" 3<&{high} {high}<&-'
-                words = ["bash", "-c", script, "bash", built()[0], "--listen", f"{room}/it", f"{room}/no.store"]
-                done = subprocess.run(words, pass_fds=[high], capture_output=True, text=True, timeout=SECONDS)
+                words = [
+                    "bash",
+                    "-c",
+                    script,
+                    "bash",
+                    built()[0],
+                    "--listen",
+                    f"{room}/it",
+                    f"{room}/no.store",
+                ]
+                done = subprocess.run(
+                    words, pass_fds=[high], capture_output=True, text=True, timeout=SECONDS
+                )
                 os.close(high)
                 found = done.returncode, done.stdout, done.stderr
-                self.tell(what, found == (2, "", "oaut-gateway: descriptor 3 is no listening socket\n"), found)
+                self.tell(
+                    what,
+                    found == (2, "", "oaut-gateway: descriptor 3 is no listening socket\n"),
+                    found,
+                )
 
     @unittest.skipIf(os.geteuid(), "not run by root")
     def test_who_may(self):
         """Whom the rights of the socket let, and of these whom the options do."""
         client = (
             "import os, socket, sys\n"
-            "os.setgroups([int(it) for it in sys.argv[4:]]); os.setgid(int(sys.argv[3])); os.setuid(int(sys.argv[2]))\n"
+            "os.setgroups([int(it) for it in sys.argv[4:]]); os.setgid(int(sys.argv[3])); "
+            "os.setuid(int(sys.argv[2]))\n"
             "s = socket.socket(socket.AF_UNIX); s.settimeout(60)\n"
-            "try:\n    s.connect(sys.argv[1]); s.sendall(bytes.fromhex('080000004d00000063000000')); print(len(s.recv(100)))\n"
+            "try:\n    s.connect(sys.argv[1]); "
+            "s.sendall(bytes.fromhex('080000004d00000063000000')); print(len(s.recv(100)))\n"
             "except ConnectionError: print(0)\nexcept PermissionError: print('rights')\n"
         )
         rows = [
             ([], [("0", "0"), "20"], [("1234", "1234"), "rights"]),
             (["--mode", "0666"], [("1234", "1234"), "20"]),
-            (["--mode", "0666", "--allow-user", "1234"], [("1234", "1"), "20"], [("1235", "1234"), "0"], [("0", "0"), "0"]),
+            (
+                ["--mode", "0666", "--allow-user", "1234"],
+                [("1234", "1"), "20"],
+                [("1235", "1234"), "0"],
+                [("0", "0"), "0"],
+            ),
             (
                 ["--mode", "0666", "--allow-group", "4321", "--allow-user", "daemon"],
                 [("1", "5"), "20"],
@@ -1045,10 +1640,20 @@ class CommandLine(Cases):
         for words, *tries in rows:
             with Gateway(*words) as gateway:
                 os.chmod(gateway.room, 0o755)
-                Gateway.wait_for(lambda: os.path.exists(f"{gateway.room}/listen"), "there is no socket")
+                Gateway.wait_for(
+                    lambda: os.path.exists(f"{gateway.room}/listen"), "there is no socket"
+                )
                 for ids, wanted in tries:
-                    done = subprocess.run([sys.executable, "-c", client, f"{gateway.room}/listen", *ids], capture_output=True, text=True)
-                    self.tell(f"{words}: user, group and groups {ids}", done.stdout.strip() == wanted, done)
+                    done = subprocess.run(
+                        [sys.executable, "-c", client, f"{gateway.room}/listen", *ids],
+                        capture_output=True,
+                        text=True,
+                    )
+                    self.tell(
+                        f"{words}: user, group and groups {ids}",
+                        done.stdout.strip() == wanted,
+                        done,
+                    )
                 self.tell("its end", gateway.end()[0] == 0)
 
 
@@ -1056,16 +1661,32 @@ class CommandLine(Cases):
 class Behind(Cases):
     """What stands before the gateway, as docs/operations/gateway.md has it."""
 
+    def asked(self, room, port, name):
+        """What the gateway answers to a client with the certificate of this name, or without one."""
+        import ssl
+
+        context = ssl.create_default_context(cafile=f"{room}/server.pem")
+        context.check_hostname = False
+        if name:
+            context.load_cert_chain(f"{room}/{name}.pem", f"{room}/{name}.key")
+        with socket.create_connection(("127.0.0.1", port), SECONDS) as plain:
+            try:
+                with context.wrap_socket(plain) as sock:
+                    sock.sendall(record(NONE))
+                    return hear(sock, 20)
+            except OSError:
+                return b""
+
     @left_out("stunnel", "openssl")
     def test_tls_with_certificates(self):
         with Gateway() as gateway:
             room = gateway.room
             for name in ("server", "client", "stranger"):
+                words = "openssl req -x509 -newkey ec -pkeyopt ec_paramgen_curve:prime256v1 -nodes"
+                words += f" -days 2 -subj /CN={name} -keyout {room}/{name}.key"
                 subprocess.run(
-                    ["openssl", "req", "-x509", "-newkey", "ec", "-pkeyopt", "ec_paramgen_curve:prime256v1", "-nodes", "-days", "2", "-subj", f"/CN={name}"]
-                    + ["-keyout", f"{room}/{name}.key", "-out", f"{room}/{name}.pem"],
-                    check=True, capture_output=True,
-                )  # fmt: skip
+                    [*words.split(), "-out", f"{room}/{name}.pem"], check=True, capture_output=True
+                )
             port = free_port()
             with open(f"{ROOT}/docs/operations/gateway.md") as file:
                 told = re.search(r"```ini\n(.*?)```", file.read(), re.S)[1]
@@ -1080,33 +1701,27 @@ class Behind(Cases):
                 told = told.replace(old, new)
             with open(f"{room}/stunnel.conf", "w") as file:
                 file.write(f"foreground = yes\npid =\n{told}")
-            tunnel = subprocess.Popen(["stunnel", f"{room}/stunnel.conf"], stdout=subprocess.DEVNULL, stderr=subprocess.DEVNULL)
+            tunnel = subprocess.Popen(
+                ["stunnel", f"{room}/stunnel.conf"],
+                stdout=subprocess.DEVNULL,
+                stderr=subprocess.DEVNULL,
+            )
             try:
 
-                def asked(name):
-                    import ssl
-
-                    context = ssl.create_default_context(cafile=f"{room}/server.pem")
-                    context.check_hostname = False
-                    if name:
-                        context.load_cert_chain(f"{room}/{name}.pem", f"{room}/{name}.key")
-                    with socket.create_connection(("127.0.0.1", port), SECONDS) as plain:
-                        try:
-                            with context.wrap_socket(plain) as sock:
-                                sock.sendall(record(NONE))
-                                return hear(sock, 20)
-                        except OSError:
-                            return b""
-
                 def reached():
-                    with contextlib.suppress(OSError), socket.create_connection(("127.0.0.1", port), SECONDS):
+                    with contextlib.suppress(OSError), socket.create_connection(
+                        ("127.0.0.1", port), SECONDS
+                    ):
                         return True
                     return False
 
                 Gateway.wait_for(reached, "stunnel does not listen")
-                self.tell("a client with its certificate", asked("client") == record(NO_REQUEST))
-                self.tell("one with another certificate", asked("stranger") == b"")
-                self.tell("one without", asked(None) == b"")
+                for what, name, due in (
+                    ("a client with its certificate", "client", record(NO_REQUEST)),
+                    ("one with another certificate", "stranger", b""),
+                    ("one without", None, b""),
+                ):
+                    self.tell(what, self.asked(room, port, name) == due)
             finally:
                 tunnel.terminate()
                 tunnel.wait()

@@ -1,4 +1,5 @@
-"""One behaviour of the gateway each, most of them at a bound or at an end. tools/gateway_mutants.py says which fault of the C each of them finds."""
+"""One behaviour of the gateway each, most of them at a bound or at an end. tools/gateway_mutants.py
+says which fault of the C each of them finds."""
 import collections
 import contextlib
 import ctypes
@@ -16,15 +17,15 @@ import threading
 import time
 import unittest
 
-import wire
-from codes import WRITE_FAULT
-from gateways import SECONDS, Gateway, arrived, hear, left_out, record, rest, sends
-from ports import free_port
-from preloaded import COMPILER
-from running import Cases, run_in
-from test_gateway import BODY_LIMIT, NO_REQUEST, NONE, STUB, told_of
-from tries import in_time, least
-from wire import oaut
+from tests.gateway.gateways import SECONDS, Gateway, arrived, hear, left_out, record, rest, sends
+from tests.gateway.test_gateway import BODY_LIMIT, NO_REQUEST, NONE, STUB, told_of
+from tests.support import wire
+from tests.support.codes import WRITE_FAULT
+from tests.support.ports import free_port
+from tests.support.preloaded import COMPILER
+from tests.support.running import Cases, run_in
+from tests.support.tries import in_time, least
+from tests.support.wire import oaut
 
 needs_cc = unittest.skipUnless(COMPILER, "cc is not there")
 E_FAIL = 0x8000_4005
@@ -32,7 +33,8 @@ ANSWER = record(NO_REQUEST)
 # opcodes of the server below
 SIZED, FAULT_AND_END, HALF_AND_END, FAULT = 50, 51, 52, 54
 
-# A server that writes down whose requests each batch has, and that answers a batch when there is no file `gate`.
+# A server that writes down whose requests each batch has, and that answers a batch when there is no
+# file `gate`.
 FAKE = r"""#!/usr/bin/env python3
 import os, signal, struct, sys, time
 room = os.path.dirname(os.path.abspath(__file__))
@@ -48,12 +50,16 @@ with open(f"{room}/starts", "a") as file:
 while some := os.read(0, 1 << 20):
     data += some
     at = 0
-    while len(data) - at >= 8 and len(data) - at >= 8 + (size := struct.unpack_from("<I", data, at + 4)[0]):
+    while len(data) - at >= 8:
+        (size,) = struct.unpack_from("<I", data, at + 4)
+        if len(data) - at < 8 + size:
+            break
         client, given = struct.unpack_from("<I", data, at)[0], data[at + 8 : at + 8 + size]
         at += 8 + size
         given, place = parts.pop(client, b"") + given, 0
         while len(given) - place >= 4:
-            length, tag, opcode, more = struct.unpack_from("<IIII", given[place : place + 16] + bytes(16))
+            head = given[place : place + 16] + bytes(16)
+            length, tag, opcode, more = struct.unpack_from("<IIII", head)
             if len(given) - place < 4 + length:
                 break
             place += 4 + length
@@ -63,7 +69,8 @@ while some := os.read(0, 1 << 20):
                 with open(f"{room}/code") as file:
                     code = int(file.read())
             fields = bytes(more if opcode == 50 else 0)
-            due.append(frame(client, struct.pack("<IIIII", 16 + len(fields), tag, code, 0xFFFFFFFF, 0) + fields))
+            head = struct.pack("<IIIII", 16 + len(fields), tag, code, 0xFFFFFFFF, 0)
+            due.append(frame(client, head + fields))
             batch.append(client)
             if opcode == 51:
                 end()
@@ -102,7 +109,14 @@ class Faked(Gateway):
             with open(f"{self.folder.name}/{name}", "w") as file:
                 file.write(text)
         os.chmod(f"{self.folder.name}/fake", 0o755)
-        super().__init__("--report", "0", *words, room=self.folder.name, program=f"{self.folder.name}/fake", **how)
+        super().__init__(
+            "--report",
+            "0",
+            *words,
+            room=self.folder.name,
+            program=f"{self.folder.name}/fake",
+            **how,
+        )
 
     def gate(self, closed):
         """Whether batches are kept waiting for their replies."""
@@ -123,7 +137,10 @@ class Faked(Gateway):
 
     def received(self, count):
         """Waits until so many bytes of requests have come."""
-        self.wait_for(lambda: self.counters()["oaut_gateway_received_bytes_total"] >= count, "the requests do not come")
+        self.wait_for(
+            lambda: self.counters()["oaut_gateway_received_bytes_total"] >= count,
+            "the requests do not come",
+        )
 
 
 class Behaviour(Cases):
@@ -177,7 +194,11 @@ class Behaviour(Cases):
 
     def ended(self, gateway, status=0, with_=signal.SIGTERM):
         found, said = gateway.end(with_)
-        self.tell("its end", found == status and "Sanitizer" not in said and "runtime error" not in said, f"wanted {status}, got {found}: {said}")
+        self.tell(
+            "its end",
+            found == status and "Sanitizer" not in said and "runtime error" not in said,
+            f"wanted {status}, got {found}: {said}",
+        )
         return said
 
 
@@ -206,8 +227,15 @@ def waits_for_end(pid):
 class Rights(Behaviour):
     def test_the_mode_is_for_all_sockets_but_control(self):
         gateway = self.started("--mode", "0666")
-        found = {name: stat.S_IMODE(os.stat(f"{gateway.room}/{name}").st_mode) for name in Gateway.OPTIONS}
-        self.tell("the rights", found == {**dict.fromkeys(Gateway.OPTIONS, 0o666), "control": 0o600}, found)
+        found = {
+            name: stat.S_IMODE(os.stat(f"{gateway.room}/{name}").st_mode)
+            for name in Gateway.OPTIONS
+        }
+        self.tell(
+            "the rights",
+            found == {**dict.fromkeys(Gateway.OPTIONS, 0o666), "control": 0o600},
+            found,
+        )
 
     def test_the_server_inherits_no_socket(self):
         """One that is started while there are listeners and clients."""
@@ -217,7 +245,9 @@ class Rights(Behaviour):
         gateway.dial("control")
         first = gateway.server()
         os.kill(first, signal.SIGKILL)
-        second = Gateway.wait_for(lambda: gateway.server() != first and gateway.server(), "it is not started again")
+        second = Gateway.wait_for(
+            lambda: gateway.server() != first and gateway.server(), "it is not started again"
+        )
         self.tell("its descriptors", *self.no_socket(second))
 
     def no_socket(self, pid):
@@ -225,15 +255,30 @@ class Rights(Behaviour):
         for it in map(int, os.listdir(f"/proc/{pid}/fd")):
             with contextlib.suppress(OSError):
                 links[it] = os.readlink(f"/proc/{pid}/fd/{it}")
-        return not [it for fd, it in links.items() if fd > 2 and it.startswith(("socket:", "anon_inode:"))], links
+        return (
+            not [
+                it
+                for fd, it in links.items()
+                if fd > 2 and it.startswith(("socket:", "anon_inode:"))
+            ],
+            links,
+        )
 
     def test_standard_streams_that_are_closed(self):
-        """No socket gets their numbers, so that no line of the log goes to the server or to a client."""
+        """No socket gets their numbers, so that no line of the log goes to the server or to a
+        client."""
         for closed in ((2,), (1, 2), (0, 1, 2)):
             under = ["sh", "-c", 'exec "$@"' + "".join(f" {it}>&-" for it in closed), "sh"]
             gateway = self.started(kind=Faked, under=under)
-            for who, pid in (("the gateway", gateway.process.pid), ("its server", gateway.server())):
-                found = {it: os.readlink(f"/proc/{pid}/fd/{it}") for it in closed if who == "the gateway" or it == 2}
+            for who, pid in (
+                ("the gateway", gateway.process.pid),
+                ("its server", gateway.server()),
+            ):
+                found = {
+                    it: os.readlink(f"/proc/{pid}/fd/{it}")
+                    for it in closed
+                    if who == "the gateway" or it == 2
+                }
                 self.tell(f"{who}, without {closed}", set(found.values()) == {"/dev/null"}, found)
             found = told_of("reload", f"{gateway.room}/control", "--idle", "100")
             self.tell(f"a line for the log, without {closed}", found[0] == 0, found)
@@ -247,13 +292,27 @@ class Rights(Behaviour):
             sock.listen()
             gateway = self.stack.enter_context(Gateway(sockets=("control",), starts=False))
             high = os.dup(sock.fileno())
-            words = ["bash", "-c", f'export LISTEN_PID=$$ LISTEN_FDS=1; exec "$@" 9<&{high} 3<&9 9<&-' + f" {high}<&-" * (high > 3), "bash", *gateway.words]
-            gateway.process = subprocess.Popen(words, env={**os.environ, **gateway.variables}, pass_fds=[high], stderr=open(f"{gateway.room}/said", "wb"))
+            words = [
+                "bash",
+                "-c",
+                f'export LISTEN_PID=$$ LISTEN_FDS=1; exec "$@" 9<&{high} 3<&9 9<&-'
+                + f" {high}<&-" * (high > 3),
+                "bash",
+                *gateway.words,
+            ]
+            gateway.process = subprocess.Popen(
+                words,
+                env={**os.environ, **gateway.variables},
+                pass_fds=[high],
+                stderr=open(f"{gateway.room}/said", "wb"),
+            )
             os.close(high)
             Gateway.wait_for(gateway.counters, "it does not serve")
             first = gateway.server()
             os.kill(first, signal.SIGKILL)
-            second = Gateway.wait_for(lambda: gateway.server() != first and gateway.server(), "it is not started again")
+            second = Gateway.wait_for(
+                lambda: gateway.server() != first and gateway.server(), "it is not started again"
+            )
             self.tell("its descriptors", *self.no_socket(second))
 
     def test_the_server_has_the_usual_signals(self):
@@ -286,7 +345,9 @@ class Rights(Behaviour):
 
     def test_as_many_descriptors_as_clients(self):
         """The limit of descriptors is raised as far as it may be."""
-        gateway = self.stack.enter_context(Gateway("--clients", "150", under=("sh", "-c", 'ulimit -S -n 100; exec "$@"', "sh")))
+        gateway = self.stack.enter_context(
+            Gateway("--clients", "150", under=("sh", "-c", 'ulimit -S -n 100; exec "$@"', "sh"))
+        )
         gateway.settles()
         socks = [self.stack.enter_context(gateway.dial()) for _ in range(140)]
         for it in socks:
@@ -300,9 +361,12 @@ class Rights(Behaviour):
         client = (
             "import os, socket, sys\nos.setgroups([7, 8]); os.setgid(7); os.setuid(7)\n"
             "s = socket.socket(socket.AF_UNIX); s.settimeout(60); s.connect(sys.argv[1])\n"
-            "try:\n    s.sendall(bytes.fromhex('080000004d00000063000000')); print(len(s.recv(100)))\nexcept OSError: print(0)\n"
+            "try:\n    s.sendall(bytes.fromhex('080000004d00000063000000')); "
+            "print(len(s.recv(100)))\nexcept OSError: print(0)\n"
         )
-        done = subprocess.run([sys.executable, "-c", client, f"{gateway.room}/listen"], capture_output=True, text=True)
+        done = subprocess.run(
+            [sys.executable, "-c", client, f"{gateway.room}/listen"], capture_output=True, text=True
+        )
         self.tell("one of other groups", done.stdout == "0\n", done)
 
 
@@ -316,14 +380,18 @@ class Turns(Behaviour):
         return sock
 
     def forgotten(self):
-        """Waits until no client counts as one that waits for each of its requests, beside which a flood gets only a part of a batch: that takes 50 ms."""
+        """Waits until no client counts as one that waits for each of its requests, beside which a
+        flood gets only a part of a batch: that takes 50 ms."""
         time.sleep(0.1)
 
     def test_who_came_first_has_its_turn_first(self):
         gateway = self.started(kind=Faked)
         begins, one, many = self.dial(gateway), self.warmed(gateway), self.warmed(gateway)
         gateway.gate(True)
-        before, come = len(gateway.batches()), gateway.counters()["oaut_gateway_received_bytes_total"]
+        before, come = (
+            len(gateway.batches()),
+            gateway.counters()["oaut_gateway_received_bytes_total"],
+        )
         begins.sendall(asks(SIZED))
         Gateway.wait_for(lambda: len(gateway.batches()) > before, "there is no batch")
         one.sendall(asks(SIZED))
@@ -334,14 +402,21 @@ class Turns(Behaviour):
         hear(many, 20 * 3000)
         found = gateway.batches()[before + 1 :]
         # (48 requests of a flood are in a batch at least)
-        self.tell("one request, then many", len(found[0]) > 48 and found[0].count(found[0][0]) == 1 and len({*found[0]}) == 2, found[0][:70])
+        self.tell(
+            "one request, then many",
+            len(found[0]) > 48 and found[0].count(found[0][0]) == 1 and len({*found[0]}) == 2,
+            found[0][:70],
+        )
         self.ended(gateway)
 
     def test_64_requests_are_a_turn(self):
         gateway = self.started(kind=Faked)
         begins, one, two = self.dial(gateway), self.warmed(gateway), self.warmed(gateway)
         gateway.gate(True)
-        before, come = len(gateway.batches()), gateway.counters()["oaut_gateway_received_bytes_total"]
+        before, come = (
+            len(gateway.batches()),
+            gateway.counters()["oaut_gateway_received_bytes_total"],
+        )
         begins.sendall(asks(SIZED))
         Gateway.wait_for(lambda: len(gateway.batches()) > before, "there is no batch")
         for it in (one, two):
@@ -352,17 +427,24 @@ class Turns(Behaviour):
         for it in (one, two):
             self.tell("each is answered", len(hear(it, 20 * 300)) == 6000)
         found = gateway.batches()[before + 1]
-        runs = [len(it.group()) for it in re.finditer(r"a+|b+", "".join("a" if it == found[0] else "b" for it in found))]
+        runs = [
+            len(it.group())
+            for it in re.finditer(r"a+|b+", "".join("a" if it == found[0] else "b" for it in found))
+        ]
         self.tell("they take turns of 64 requests", runs[:4] == [64] * 4, runs)
         self.ended(gateway)
 
     def test_the_next_one_alone_comes_beside_a_flood(self):
-        """After those that share had a turn: one that is alone does not wait for the flood's end."""
+        """After those that share had a turn: one that is alone does not wait for the flood's
+        end."""
         gateway = self.started(kind=Faked)
         floods = [self.warmed(gateway) for _ in range(20)]
         first, second = self.dial(gateway, "alone"), self.stack.enter_context(gateway.dial("alone"))
         gateway.gate(True)
-        before, come = len(gateway.batches()), gateway.counters()["oaut_gateway_received_bytes_total"]
+        before, come = (
+            len(gateway.batches()),
+            gateway.counters()["oaut_gateway_received_bytes_total"],
+        )
         first.sendall(asks(SIZED))
         Gateway.wait_for(lambda: len(gateway.batches()) > before, "there is no batch")
         for it in floods:
@@ -379,12 +461,21 @@ class Turns(Behaviour):
         # its request may be in the batch of those before it, so its place among all requests counts
         counts = collections.Counter(asked)
         places = [place for place, it in enumerate(asked) if counts[it] == 1]
-        self.tell("each is asked for once", len(asked) == 20_001 and len(places) == 1, (len(asked), places))
-        self.tell("it comes behind a batch of the others at most", places and 0 < places[0] <= 1023, places)
+        self.tell(
+            "each is asked for once",
+            len(asked) == 20_001 and len(places) == 1,
+            (len(asked), places),
+        )
+        self.tell(
+            "it comes behind a batch of the others at most",
+            places and 0 < places[0] <= 1023,
+            places,
+        )
         self.ended(gateway)
 
     def test_replies_that_are_taken_late(self):
-        """A client that leaves more than 1 MiB of replies for a while gets all of them once it takes them."""
+        """A client that leaves more than 1 MiB of replies for a while gets all of them once it
+        takes them."""
         gateway = self.started(kind=Faked)
         sock = self.dial(gateway)
         sock.sendall(asks(SIZED, 5_000) * 1_200)  # (more than a batch has)
@@ -482,7 +573,11 @@ class Ends(Behaviour):
     def test_sigint(self):
         gateway = self.started()
         self.ended(gateway, with_=signal.SIGINT)
-        self.tell("no socket is left", sorted(os.listdir(gateway.room)) == ["it.store", "said"], os.listdir(gateway.room))
+        self.tell(
+            "no socket is left",
+            sorted(os.listdir(gateway.room)) == ["it.store", "said"],
+            os.listdir(gateway.room),
+        )
 
     def test_sigterm_reads_what_has_come(self):
         """Requests that have come whole, and were not read when the signal came, are answered."""
@@ -545,7 +640,9 @@ class Ends(Behaviour):
         Gateway.wait_for(lambda: not os.path.exists(f"{gateway.room}/listen"), "it does not end")
         os.kill(server, signal.SIGKILL)
         self.ended(gateway, with_=None)
-        self.tell("it is not started again", gateway.lines("starts") == ["start"], gateway.lines("starts"))
+        self.tell(
+            "it is not started again", gateway.lines("starts") == ["start"], gateway.lines("starts")
+        )
 
     def test_a_fault_before_a_signal(self):
         """A server that said STG_E_WRITEFAULT is not started again, however it ends."""
@@ -555,7 +652,9 @@ class Ends(Behaviour):
         rest(sock)
         said = self.ended(gateway, 3, with_=None)
         self.tell("it says why", "not started again" in said, said)
-        self.tell("it is not started again", gateway.lines("starts") == ["start"], gateway.lines("starts"))
+        self.tell(
+            "it is not started again", gateway.lines("starts") == ["start"], gateway.lines("starts")
+        )
 
     def test_a_fault_of_a_server_that_goes_on(self):
         gateway = self.started(kind=Faked)
@@ -574,11 +673,15 @@ class Ends(Behaviour):
         Gateway.wait_for(lambda: len(gateway.lines("starts")) == 2, "it is not started again")
         with gateway.dial() as sock:
             sock.sendall(asks(SIZED, 100))
-            self.tell("the next server's reply", hear(sock, 120)[:16] == struct.pack("<IIII", 116, 5, 0, oaut.NO_INDEX))
+            self.tell(
+                "the next server's reply",
+                hear(sock, 120)[:16] == struct.pack("<IIII", 116, 5, 0, oaut.NO_INDEX),
+            )
         self.ended(gateway)
 
     def test_replies_before_the_end_that_are_as_long_as_a_read(self):
-        """The gateway reads 262,144 bytes at a time. What has come before the server's end is answered, and a fault in it is seen."""
+        """The gateway reads 262,144 bytes at a time. What has come before the server's end is
+        answered, and a fault in it is seen."""
         read, framed = 262_144, 8 + 20  # (bytes of a frame with a short reply)
         for opcode, last in ((FAULT_AND_END, framed), (HALF_AND_END, 20)):
             gateway = self.started(kind=Faked)
@@ -597,14 +700,20 @@ class Ends(Behaviour):
                 self.tell("the whole reply before the half one", got == read - last - 8, got)
 
     def test_requests_of_a_server_that_was_killed(self):
-        """What it had not read is not for the next one: neither the rest of a request that is longer than what a socket holds, nor those behind it."""
+        """What it had not read is not for the next one: neither the rest of a request that is
+        longer than what a socket holds, nor those behind it."""
         gateway = self.started(kind=Faked)
         socks = [self.dial(gateway) for _ in range(8)]
         server = gateway.server()
         come = gateway.counters()["oaut_gateway_received_bytes_total"]
         with self.stopped(server):
             for at, it in enumerate(socks):
-                it.sendall(record(struct.pack("<IHHI", 5, SIZED, 0, 0) + b"\x7f" * (200_000 if at else 3_000_000)))
+                it.sendall(
+                    record(
+                        struct.pack("<IHHI", 5, SIZED, 0, 0)
+                        + b"\x7f" * (200_000 if at else 3_000_000)
+                    )
+                )
             gateway.received(come + 7 * 200_000 + 3_000_000)
             os.kill(server, signal.SIGKILL)
         for it in socks:
@@ -612,22 +721,29 @@ class Ends(Behaviour):
         Gateway.wait_for(lambda: len(gateway.lines("starts")) == 2, "it is not started again")
         with gateway.dial() as sock:
             sock.sendall(asks(SIZED, 100))
-            self.tell("the next server's reply", hear(sock, 120)[:16] == struct.pack("<IIII", 116, 5, 0, oaut.NO_INDEX))
+            self.tell(
+                "the next server's reply",
+                hear(sock, 120)[:16] == struct.pack("<IIII", 116, 5, 0, oaut.NO_INDEX),
+            )
         self.ended(gateway)
 
     def test_who_went_before_the_server_was_killed(self):
-        """What that server owed to a client that had gone is not taken from who has its place at the next one."""
+        """What that server owed to a client that had gone is not taken from who has its place at
+        the next one."""
         gateway = self.started(kind=Faked)
         sock, server = self.dial(gateway), gateway.server()
         sock.sendall(asks(SIZED) * 2)
         hear(sock, 20)
-        Gateway.wait_for(lambda: arrived(sock) == 20, "the other reply does not come")  # and is never read: so the end of the connection is a reset
+        # and is never read: so the end of the connection is a reset
+        Gateway.wait_for(lambda: arrived(sock) == 20, "the other reply does not come")
         come = gateway.counters()["oaut_gateway_received_bytes_total"]
         with self.stopped(server):
             sock.sendall(asks(SIZED))
             gateway.received(come + 16)
             sock.close()
-            Gateway.wait_for(lambda: gateway.counters()["oaut_gateway_clients"] == 0, "it has not gone")
+            Gateway.wait_for(
+                lambda: gateway.counters()["oaut_gateway_clients"] == 0, "it has not gone"
+            )
             os.kill(server, signal.SIGKILL)
         Gateway.wait_for(lambda: len(gateway.lines("starts")) == 2, "it is not started again")
         with gateway.dial() as sock:
@@ -643,7 +759,11 @@ class Ends(Behaviour):
         Gateway.wait_for(lambda: gateway.server() not in (0, first), "it is not started again")
         self.dial(gateway)
         found = gateway.counters()
-        self.tell("a time each batch", found["oaut_gateway_commit_seconds_count"] == found["oaut_gateway_batches_total"] == 2, found)
+        self.tell(
+            "a time each batch",
+            found["oaut_gateway_commit_seconds_count"] == found["oaut_gateway_batches_total"] == 2,
+            found,
+        )
         self.ended(gateway)
 
 
@@ -654,7 +774,11 @@ class Patience(Behaviour):
         sock = self.dial(gateway)
         begun = time.monotonic()
         sock.sendall(record(NONE)[:5])
-        self.tell("it is refused", rest(sock) == record(STUB) and time.monotonic() - begun < 90, time.monotonic() - begun)
+        self.tell(
+            "it is refused",
+            rest(sock) == record(STUB) and time.monotonic() - begun < 90,
+            time.monotonic() - begun,
+        )
         self.tell("it counts as stalled", gateway.counters()["oaut_gateway_stalled_total"] == 1)
         self.ended(gateway)
 
@@ -666,7 +790,8 @@ class Patience(Behaviour):
         sock.sendall(record(bytes(1000))[:4])
         sock.settimeout(0.3)
         while not got and time.monotonic() - begun < 90:
-            with contextlib.suppress(OSError):  # (it may be told its end, and closed, before it sends)
+            # (it may be told its end, and closed, before it sends)
+            with contextlib.suppress(OSError):
                 sock.sendall(b"x")
             with contextlib.suppress(socket.timeout):
                 got = sock.recv(100)
@@ -675,7 +800,8 @@ class Patience(Behaviour):
         self.ended(gateway)
 
     def test_requests_that_each_come_in_time(self):
-        """A client that always has part of a request on its way is served as long as each comes in time."""
+        """A client that always has part of a request on its way is served as long as each comes in
+        time."""
         gateway = self.started("--idle", "100", "--stalled", "2")
 
         def serves():
@@ -741,14 +867,19 @@ class Patience(Behaviour):
         self.ended(gateway)
 
     def test_a_line_without_its_end(self):
-        """Nobody knows whether it is whole: it is refused when its client is let go, as a record that is cut."""
+        """Nobody knows whether it is whole: it is refused when its client is let go, as a record
+        that is cut."""
         gateway = self.started("--stalled", "1")
         with gateway.dial("listen-hex") as sock:
             sock.sendall(b"0" * 200 + b"\n")
             self.tell("a line", hear(sock, 33) == STUB.hex().encode() + b"\n")
             sock.sendall(NONE.hex().encode() + b"\n" + NONE.hex().encode())
             got = rest(sock).split(b"\n")
-            self.tell("one more, and a part", got == [NO_REQUEST.hex().encode(), STUB.hex().encode(), b""], got)
+            self.tell(
+                "one more, and a part",
+                got == [NO_REQUEST.hex().encode(), STUB.hex().encode(), b""],
+                got,
+            )
         with gateway.dial() as sock:
             sock.sendall(record(NONE)[:-1])
             got = rest(sock)
@@ -781,7 +912,8 @@ class Patience(Behaviour):
         sock = self.dial(gateway)
 
         def waits(held_by, goes):
-            """The seconds from the end of the one that holds the server to the reply of the one that waits."""
+            """The seconds from the end of the one that holds the server to the reply of the one
+            that waits."""
             with held_by:
                 goes(held_by)
                 sock.sendall(record(NONE))
@@ -798,7 +930,10 @@ class Patience(Behaviour):
             alone.sendall(record(NONE))
             hear(alone, 20)
 
-        for name, socket_of, goes in (("a backup", "control", backs_up), ("an exclusive client", "alone", asks_alone)):
+        for name, socket_of, goes in (
+            ("a backup", "control", backs_up),
+            ("an exclusive client", "alone", asks_alone),
+        ):
             took = least(0.5, lambda: waits(gateway.dial(socket_of), goes))
             self.tell(f"{name}: at once", took < 0.5, took)
         self.ended(gateway)
@@ -847,7 +982,9 @@ class Patience(Behaviour):
             self.tell("the end", rest(sock) == b"")
             times.append(time.monotonic() - begun)
         self.tell("the least time until the end comes", min(times) < 1, times)
-        Gateway.wait_for(lambda: gateway.counters()["oaut_gateway_clients"] == 0, "it keeps its place")
+        Gateway.wait_for(
+            lambda: gateway.counters()["oaut_gateway_clients"] == 0, "it keeps its place"
+        )
         self.tell("its place is free", True)
         self.ended(gateway)
 
@@ -855,7 +992,9 @@ class Patience(Behaviour):
         gateway = self.started("--stalled", "1", "--idle", "100", kind=Faked)
         sock = self.dial(gateway)
         sock.sendall(asks(SIZED, 1_000_000) * 3)
-        Gateway.wait_for(lambda: gateway.counters()["oaut_gateway_stalled_total"] == 1, "it is not let go")
+        Gateway.wait_for(
+            lambda: gateway.counters()["oaut_gateway_stalled_total"] == 1, "it is not let go"
+        )
         self.tell("it has not got all", len(rest(sock)) < 3_000_060)
         self.ended(gateway)
 
@@ -896,7 +1035,10 @@ class Bounds(Behaviour):
             it.sendall(struct.pack("<I", BODY_LIMIT) + bytes(100_000))
         time.sleep(0.2)
         late = self.stack.enter_context(gateway.dial())
-        sends = threading.Thread(target=late.sendall, args=[record(struct.pack("<IHHI", 5, SIZED, 0, 0) + bytes(BODY_LIMIT - 12))])
+        sends = threading.Thread(
+            target=late.sendall,
+            args=[record(struct.pack("<IHHI", 5, SIZED, 0, 0) + bytes(BODY_LIMIT - 12))],
+        )
         sends.start()
         time.sleep(0.5)
         for it in firsts:
@@ -907,14 +1049,26 @@ class Bounds(Behaviour):
         self.ended(gateway)
 
     def test_long_requests_wait_for_each_other(self):
-        """Those that begin while there is no room are read once there is, so none is left in parts."""
+        """Those that begin while there is no room are read once there is, so none is left in
+        parts."""
         body = struct.pack("<IHHI", 5, SIZED, 0, 0) + bytes(BODY_LIMIT - 12)
         gateway = self.started("--memory", "16", "--stalled", "600", kind=Faked, flags="-O1 -g")
-        for name, data, size in (("listen", record(body), 20), ("listen-hex", body.hex().encode() + b"\n", 33)):
+        for name, data, size in (
+            ("listen", record(body), 20),
+            ("listen-hex", body.hex().encode() + b"\n", 33),
+        ):
             socks, found = [self.stack.enter_context(gateway.dial(name)) for _ in range(4)], []
             for it in socks:
                 it.sendall(data[:100_000])
-            threads = [threading.Thread(target=lambda it=it: (it.sendall(data[100_000:]), found.append(len(hear(it, size))))) for it in socks]
+            threads = [
+                threading.Thread(
+                    target=lambda it=it: (
+                        it.sendall(data[100_000:]),
+                        found.append(len(hear(it, size))),
+                    )
+                )
+                for it in socks
+            ]
             for it in threads:
                 it.start()
             for it in threads:
@@ -925,7 +1079,8 @@ class Bounds(Behaviour):
         self.ended(gateway)
 
     def test_there_is_room_for_who_has_the_server_alone(self):
-        """All others wait for it, and what they have asked for has all the room that there is, and that of one more."""
+        """All others wait for it, and what they have asked for has all the room that there is, and
+        that of one more."""
         gateway = self.started("--memory", "16", "--stalled", "600", "--hold", "600", kind=Faked)
         alone = self.dial(gateway, "alone")
         come = gateway.counters()["oaut_gateway_received_bytes_total"]
@@ -942,9 +1097,12 @@ class Bounds(Behaviour):
         self.stack.close()
 
     def test_those_that_have_a_part_wait_for_nobody_else_that_has(self):
-        """Many that send short requests, and behind them the beginning of a long one: what they have of these is all the room that there is."""
+        """Many that send short requests, and behind them the beginning of a long one: what they
+        have of these is all the room that there is."""
         gateway = self.started("--memory", "16", "--stalled", "600", kind=Faked)
-        short, long = record(asks(SIZED)[4:] + bytes(988)), record(asks(SIZED)[4:] + bytes(2_000_000))
+        short, long = record(asks(SIZED)[4:] + bytes(988)), record(
+            asks(SIZED)[4:] + bytes(2_000_000)
+        )
         begins = self.dial(gateway)
         gateway.gate(True)
         begins.sendall(asks(SIZED))
@@ -952,7 +1110,10 @@ class Bounds(Behaviour):
         socks = [self.stack.enter_context(gateway.dial()) for _ in range(40)]
         for it in socks:
             sends(it, short * 300 + long)
-        Gateway.wait_for(lambda: gateway.counters()["oaut_gateway_buffer_bytes"] > 8_000_000, "there is room left")
+        Gateway.wait_for(
+            lambda: gateway.counters()["oaut_gateway_buffer_bytes"] > 8_000_000,
+            "there is room left",
+        )
         time.sleep(0.5)
         gateway.gate(False)
         self.tell("all are answered", all(self.comes(it, 301 * 20) for it in socks))
@@ -970,17 +1131,22 @@ class Bounds(Behaviour):
         self.stack.close()
 
     def test_who_has_most_of_the_replies_is_let_go(self):
-        """Where replies come to --memory: 12 MB of one, and 6 MB of another, that both take none yet."""
+        """Where replies come to --memory: 12 MB of one, and 6 MB of another, that both take none
+        yet."""
 
         def stays():
-            """Whether the other one has all of its replies. If these need a second to come, it is let go too, as one that takes none for so long."""
+            """Whether the other one has all of its replies. If these need a second to come, it is
+            let go too, as one that takes none for so long."""
             with Faked("--memory", "16") as gateway, contextlib.ExitStack() as stack:
                 gateway.settles()
                 begins, most, less = (stack.enter_context(gateway.dial()) for _ in range(3))
                 for it in (begins, most, less):
                     self.asked(it)
                 gateway.gate(True)
-                before, come = len(gateway.batches()), gateway.counters()["oaut_gateway_received_bytes_total"]
+                before, come = (
+                    len(gateway.batches()),
+                    gateway.counters()["oaut_gateway_received_bytes_total"],
+                )
                 begins.sendall(asks(SIZED))
                 Gateway.wait_for(lambda: len(gateway.batches()) > before, "there is no batch")
                 most.sendall(asks(SIZED, 1_000_000) * 12)
@@ -988,7 +1154,10 @@ class Bounds(Behaviour):
                 less.sendall(asks(SIZED, 1_000_000) * 6)
                 gateway.received(come + 16 * 19)
                 gateway.gate(False)
-                Gateway.wait_for(lambda: gateway.counters()["oaut_gateway_stalled_total"] >= 1, "nobody is let go")
+                Gateway.wait_for(
+                    lambda: gateway.counters()["oaut_gateway_stalled_total"] >= 1,
+                    "nobody is let go",
+                )
                 found = 0
                 with contextlib.suppress(ConnectionResetError):
                     found = len(hear(less, 6 * 1_000_020))
@@ -1023,11 +1192,19 @@ class Tcp(Behaviour):
         port = free_port()
         gateway = self.started("--listen", f"127.0.0.1:{port}")
         sock = self.dial_tcp(port)
-        far = next(it for it in self.sockets_of(gateway.process.pid) if self.peer(it) == sock.getsockname())
+        far = next(
+            it for it in self.sockets_of(gateway.process.pid) if self.peer(it) == sock.getsockname()
+        )
         self.tell("TCP_NODELAY", far.getsockopt(socket.IPPROTO_TCP, socket.TCP_NODELAY))
         self.tell("SO_KEEPALIVE", far.getsockopt(socket.SOL_SOCKET, socket.SO_KEEPALIVE))
-        self.tell("a client that has gone is noticed soon", far.getsockopt(socket.IPPROTO_TCP, socket.TCP_KEEPIDLE) <= 60)
-        self.tell("also if it does not answer at once", far.getsockopt(socket.IPPROTO_TCP, socket.TCP_KEEPINTVL) <= 15)
+        self.tell(
+            "a client that has gone is noticed soon",
+            far.getsockopt(socket.IPPROTO_TCP, socket.TCP_KEEPIDLE) <= 60,
+        )
+        self.tell(
+            "also if it does not answer at once",
+            far.getsockopt(socket.IPPROTO_TCP, socket.TCP_KEEPINTVL) <= 15,
+        )
         sock.close()
 
     def peer(self, sock):
@@ -1059,7 +1236,14 @@ class Tcp(Behaviour):
         sock.close()
         self.ended(gateway, with_=None)
         gateway.start()
-        self.tell("it listens", Gateway.wait_for(lambda: gateway.process.poll() is not None or gateway.counters(), "it does not serve") is not True)
+        self.tell(
+            "it listens",
+            Gateway.wait_for(
+                lambda: gateway.process.poll() is not None or gateway.counters(),
+                "it does not serve",
+            )
+            is not True,
+        )
         self.dial_tcp(port)
         self.ended(gateway)
 
@@ -1091,7 +1275,10 @@ class Copies(Behaviour):
     def test_who_may_read_the_copy(self):
         gateway = self.started()
         done = subprocess.run(
-            [gateway.binary, "backup", f"{gateway.room}/control", f"{gateway.room}/copy"], capture_output=True, text=True, preexec_fn=lambda: os.umask(0)
+            [gateway.binary, "backup", f"{gateway.room}/control", f"{gateway.room}/copy"],
+            capture_output=True,
+            text=True,
+            preexec_fn=lambda: os.umask(0),
         )
         mode = stat.S_IMODE(os.stat(f"{gateway.room}/copy").st_mode)
         self.tell("its owner alone", done.returncode == 0 and mode == 0o600, (done, oct(mode)))
@@ -1104,7 +1291,9 @@ class Copies(Behaviour):
         sock = self.dial(gateway)
 
         def puts(value):
-            put = oaut.ask_invoke(number, 1, oaut.PROPERTYPUT, [oaut.NEW_VALUE], [wire.scalar(wire.I4, value)])
+            put = oaut.ask_invoke(
+                number, 1, oaut.PROPERTYPUT, [oaut.NEW_VALUE], [wire.scalar(wire.I4, value)]
+            )
             sock.sendall(record(struct.pack("<I", 5) + put))
             hear(sock, 20)
 
@@ -1115,7 +1304,8 @@ class Copies(Behaviour):
         self.tell("it held once", holds == 1, holds)
 
     def test_the_end_of_an_exchange_is_no_new_library(self):
-        """The Python client ends each exchange with a record that the server refuses: a backup goes on beside it."""
+        """The Python client ends each exchange with a record that the server refuses: a backup goes
+        on beside it."""
         gateway = self.started()
         with gateway.session() as server:
             item = server.create("Item")
@@ -1123,7 +1313,8 @@ class Copies(Behaviour):
         self.tell("it held once", holds == 1, holds)
 
     def copied_by_way_of(self, gateway, before_it_holds):
-        """A backup whose words go through this process, which does something before it sends the one that holds. How often that was."""
+        """A backup whose words go through this process, which does something before it sends the
+        one that holds. How often that was."""
         holds = []
 
         def carries(near):
@@ -1139,7 +1330,9 @@ class Copies(Behaviour):
         def accepts():
             with contextlib.suppress(OSError):
                 while True:
-                    threading.Thread(target=carries, args=[listening.accept()[0]], daemon=True).start()
+                    threading.Thread(
+                        target=carries, args=[listening.accept()[0]], daemon=True
+                    ).start()
 
         with socket.socket(socket.AF_UNIX) as listening:
             listening.bind(f"{gateway.room}/between")
@@ -1161,15 +1354,45 @@ class Copies(Behaviour):
         gateway = self.started(flags="-O1 -g")
         log = f"{gateway.room}/log"
         subprocess.run(
-            ["strace", "-y", "-o", log, gateway.binary, "backup", f"{gateway.room}/control", f"{gateway.room}/copy"], check=True, stdout=subprocess.DEVNULL
+            [
+                "strace",
+                "-y",
+                "-o",
+                log,
+                gateway.binary,
+                "backup",
+                f"{gateway.room}/control",
+                f"{gateway.room}/copy",
+            ],
+            check=True,
+            stdout=subprocess.DEVNULL,
         )
         with open(log) as file:
-            calls = [it for it in file.read().splitlines() if not it.endswith("(Operation not supported)")]
+            calls = [
+                it
+                for it in file.read().splitlines()
+                if not it.endswith("(Operation not supported)")
+            ]
         syncs = [place for place, it in enumerate(calls) if re.match(r"f(data)?sync\(", it)]
-        names = [place for place, it in enumerate(calls) if re.match(r"(link|rename)(at|at2)?\(", it)]
-        writes = [place for place, it in enumerate(calls) if re.match(r"(pwrite64|write|copy_file_range|ftruncate|fallocate)\([^12]", it)]
-        wanted = names and writes and any(writes[-1] < it < names[0] for it in syncs) and any(it > names[-1] for it in syncs)
-        self.tell("written, synced, named, the folder synced", wanted, [calls[it] for it in sorted(syncs + names + writes[-1:])])
+        names = [
+            place for place, it in enumerate(calls) if re.match(r"(link|rename)(at|at2)?\(", it)
+        ]
+        writes = [
+            place
+            for place, it in enumerate(calls)
+            if re.match(r"(pwrite64|write|copy_file_range|ftruncate|fallocate)\([^12]", it)
+        ]
+        wanted = (
+            names
+            and writes
+            and any(writes[-1] < it < names[0] for it in syncs)
+            and any(it > names[-1] for it in syncs)
+        )
+        self.tell(
+            "written, synced, named, the folder synced",
+            wanted,
+            [calls[it] for it in sorted(syncs + names + writes[-1:])],
+        )
 
     def test_a_copy_replaces_a_longer_file(self):
         gateway = self.started()
@@ -1181,7 +1404,11 @@ class Copies(Behaviour):
                 file.truncate(size + 5000)
         status, out, err = told_of("backup", f"{gateway.room}/control", f"{gateway.room}/copy")
         self.tell("the backup", status == 0, (out, err))
-        self.tell("its length", os.path.getsize(f"{gateway.room}/copy") == size, os.path.getsize(f"{gateway.room}/copy"))
+        self.tell(
+            "its length",
+            os.path.getsize(f"{gateway.room}/copy") == size,
+            os.path.getsize(f"{gateway.room}/copy"),
+        )
 
 
 @needs_cc
@@ -1189,9 +1416,13 @@ class Programs(Behaviour):
     def test_the_page_ends_with_a_gateway_that_is_killed(self):
         with tempfile.TemporaryDirectory() as room:
             with open(f"{room}/python3", "w") as file:
-                file.write(f"#!/bin/sh\necho $$ > {room}/new\nmv {room}/new {room}/page\nexec sleep 1000\n")
+                file.write(
+                    f"#!/bin/sh\necho $$ > {room}/new\nmv {room}/new {room}/page\nexec sleep 1000\n"
+                )
             os.chmod(f"{room}/python3", 0o755)
-            gateway = self.started("--view", f"127.0.0.1:{free_port()}", PATH=f"{room}:{os.environ['PATH']}")
+            gateway = self.started(
+                "--view", f"127.0.0.1:{free_port()}", PATH=f"{room}:{os.environ['PATH']}"
+            )
             Gateway.wait_for(lambda: os.path.exists(f"{room}/page"), "there is no page")
             with open(f"{room}/page") as file:
                 page = int(file.read())
@@ -1202,13 +1433,24 @@ class Programs(Behaviour):
 
     @needs_cc
     def test_children_of_others(self):
-        """The first process of a container gets the children of those that have ended: none of them is left there."""
-        reaper = "import ctypes, os, sys; ctypes.CDLL(None).prctl(36, 1, 0, 0, 0) or os.execvp(sys.argv[1], sys.argv[1:])"  # PR_SET_CHILD_SUBREAPER
+        """The first process of a container gets the children of those that have ended: none of them
+        is left there."""
+        # PR_SET_CHILD_SUBREAPER
+        reaper = (
+            "import ctypes, os, sys; ctypes.CDLL(None).prctl(36, 1, 0, 0, 0) or "
+            "os.execvp(sys.argv[1], sys.argv[1:])"
+        )
         gateway = Faked(starts=False, under=(sys.executable, "-c", reaper))
         self.stack.enter_context(gateway)
         with open(f"{gateway.room}/lone", "w") as file:
-            child = f"echo \\$\\$ >> {gateway.room}/lost; while [ -e {gateway.room}/lone ] && [ ! -e {gateway.room}/ends ]; do sleep 0.1; done"
-            file.write(f'#!/bin/sh\n[ "$1" = dump ] || (sh -c "{child}" &)\nexec {sys.executable} {gateway.room}/fake "$@"\n')
+            child = (
+                f"echo \\$\\$ >> {gateway.room}/lost; while [ -e {gateway.room}/lone ] && [ ! -e "
+                f"{gateway.room}/ends ]; do sleep 0.1; done"
+            )
+            file.write(
+                f'#!/bin/sh\n[ "$1" = dump ] || (sh -c "{child}" &)\n'
+                f'exec {sys.executable} {gateway.room}/fake "$@"\n'
+            )
         os.chmod(f"{gateway.room}/lone", 0o755)
         gateway.words[gateway.words.index("--program") + 1] = f"{gateway.room}/lone"
         gateway.start()
@@ -1226,36 +1468,63 @@ class Programs(Behaviour):
         self.tell("nobody is left", True)
         first = gateway.server()
         os.kill(first, signal.SIGKILL)
-        Gateway.wait_for(lambda: gateway.server() not in (0, first), "the server is not started again")
+        Gateway.wait_for(
+            lambda: gateway.server() not in (0, first), "the server is not started again"
+        )
         self.ended(gateway)
 
     def test_what_reads_the_library_is_killed(self):
         """As the server that it is for: it is started again."""
         gateway = self.stack.enter_context(Faked(starts=False))
         with open(f"{gateway.room}/killed", "w") as file:
-            file.write(f'#!/bin/sh\n[ "$1" != dump ] || [ -e {gateway.room}/once ] || {{ : > {gateway.room}/once; kill -9 $$; }}\n')
+            file.write(
+                f'#!/bin/sh\n[ "$1" != dump ] || [ -e {gateway.room}/once ] || {{ : > '
+                f"{gateway.room}/once; kill -9 $$; }}\n"
+            )
             file.write(f'exec {sys.executable} {gateway.room}/fake "$@"\n')
         os.chmod(f"{gateway.room}/killed", 0o755)
         gateway.words[gateway.words.index("--program") + 1] = f"{gateway.room}/killed"
         gateway.start()
         self.tell("it serves", gateway.process.poll() is None, gateway.process.poll())
-        self.tell("in the second try", os.path.exists(f"{gateway.room}/once") and gateway.counters().get("oaut_gateway_server_starts_total") == 2)
+        self.tell(
+            "in the second try",
+            os.path.exists(f"{gateway.room}/once")
+            and gateway.counters().get("oaut_gateway_server_starts_total") == 2,
+        )
         self.ended(gateway)
 
     def test_a_page_that_ends(self):
         with tempfile.TemporaryDirectory() as room:
             with open(f"{room}/python3", "w") as file:
                 # (by 6 if a module of the current folder would be run)
-                file.write(f'#!/bin/sh\n[ "$2" != oaut ] || exit $((6 + PYTHONSAFEPATH))\nexec {sys.executable} "$@"\n')
+                file.write(
+                    '#!/bin/sh\n[ "$2" != oaut ] || exit $((6 + PYTHONSAFEPATH))\n'
+                    f'exec {sys.executable} "$@"\n'
+                )
             os.chmod(f"{room}/python3", 0o755)
-            gateway = self.started("--view", f"127.0.0.1:{free_port()}", PATH=f"{room}:{os.environ['PATH']}", kind=Faked)
-            Gateway.wait_for(lambda: any("the page of --view has ended, by status 7" in it for it in gateway.lines("said")), "nobody is told")
+            gateway = self.started(
+                "--view",
+                f"127.0.0.1:{free_port()}",
+                PATH=f"{room}:{os.environ['PATH']}",
+                kind=Faked,
+            )
+            Gateway.wait_for(
+                lambda: any(
+                    "the page of --view has ended, by status 7" in it
+                    for it in gateway.lines("said")
+                ),
+                "nobody is told",
+            )
             self.ended(gateway)
 
     def test_a_full_socket_of_systemd(self):
-        """Clients are served all the same, and systemd is told that the gateway is ready once it reads."""
+        """Clients are served all the same, and systemd is told that the gateway is ready once it
+        reads."""
         with tempfile.TemporaryDirectory() as room, contextlib.ExitStack() as stack:
-            notified, fills = (stack.enter_context(socket.socket(socket.AF_UNIX, socket.SOCK_DGRAM)) for _ in range(2))
+            notified, fills = (
+                stack.enter_context(socket.socket(socket.AF_UNIX, socket.SOCK_DGRAM))
+                for _ in range(2)
+            )
             notified.bind(f"{room}/notify")
             notified.settimeout(SECONDS)
             fills.setblocking(False)
@@ -1264,7 +1533,10 @@ class Programs(Behaviour):
                     fills.sendto(b"full", f"{room}/notify")
             gateway = self.started(kind=Faked, NOTIFY_SOCKET=f"{room}/notify")
             self.dial(gateway)
-            Gateway.wait_for(lambda: notified.recv(500).startswith(b"READY=1\nSTATUS=serving "), "it does not say that it is ready")
+            Gateway.wait_for(
+                lambda: notified.recv(500).startswith(b"READY=1\nSTATUS=serving "),
+                "it does not say that it is ready",
+            )
             self.ended(gateway)
 
     def test_probe_beside_a_device_that_has_failed(self):
@@ -1273,4 +1545,8 @@ class Programs(Behaviour):
             with open(f"{gateway.room}/code", "w") as file:
                 file.write(str(code))
             found = told_of("probe", f"{gateway.room}/listen", str(SECONDS))
-            self.tell(f"a reply of {code:08x}", found[:2] == (3, "") and found[2].startswith("oaut-gateway: "), found)
+            self.tell(
+                f"a reply of {code:08x}",
+                found[:2] == (3, "") and found[2].startswith("oaut-gateway: "),
+                found,
+            )

@@ -1,22 +1,22 @@
-"""Read-only sockets: what comes by `--listen-read` changes nothing, and is refused where it might (docs/operations/gateway.md)."""
+"""Read-only sockets: what comes by `--listen-read` changes nothing, and is refused where it might
+(docs/operations/gateway.md)."""
 import os
 import random
 import struct
 import tempfile
 import unittest
 
-import wire
-import worked
-from asked import Answering
-from codes import BAD_STUB, MEMBER_NOT_FOUND
-from gateways import Gateway, bodies_of, hear, record, records, rest
-from histories import Guide
-from model import LIBRARY
-from preloaded import COMPILER
-from running import Cases
-from sharing import Owned
-from wire import oaut
-from watched import passed, reads, refused
+from tests.gateway.gateways import Gateway, bodies_of, hear, record, records, rest
+from tests.gateway.histories import Guide
+from tests.gateway.watched import passed, reads, refused
+from tests.support import wire, worked
+from tests.support.asked import Answering
+from tests.support.codes import BAD_STUB, MEMBER_NOT_FOUND
+from tests.support.model import LIBRARY
+from tests.support.preloaded import COMPILER
+from tests.support.running import Cases
+from tests.support.sharing import Owned
+from tests.support.wire import oaut
 
 SOCKETS = ("listen", "listen-read", "listen-hex", "alone", "control", "metrics")
 STUB = struct.pack("<IIII", 0, BAD_STUB, oaut.NO_INDEX, 0)
@@ -51,10 +51,8 @@ class Reading(Cases):
             file.write(LIBRARY)
         return file.name
 
-    def test_each_opcode(self):
-        one = oaut.ask_create(worked.ITEM)
-        begin = [one, worked.put(worked.COUNT, worked.scalar(3, 7)), worked.put(worked.GRID, worked.GRID_1_TO_6)]
-        reading = {
+    def reads(self):
+        return {
             "GETIDS": oaut.ask_ids(1, ["Count"]),
             "a get": worked.get(worked.COUNT),
             "a get with METHOD too": worked.get(worked.COUNT, flags=oaut.PROPERTYGET | oaut.METHOD),
@@ -66,13 +64,26 @@ class Reading(Cases):
             "END": struct.pack("<HH", 12, 0),
             "a get that is cut": worked.get(worked.COUNT)[:30],
         }
-        changing = {
+
+    def changes(self):
+        one = oaut.ask_create(worked.ITEM)
+        return {
             "CREATE": one,
             "RELEASE": oaut.ask_release(1),
             "a put": worked.put(worked.COUNT, worked.scalar(3, 8)),
-            "a put with PROPERTYGET too": oaut.ask_invoke(1, worked.COUNT, oaut.PROPERTYPUT | oaut.PROPERTYGET, [oaut.NEW_VALUE], [worked.scalar(3, 8)]),
-            "PROPERTYPUTREF": oaut.ask_invoke(1, worked.COUNT, oaut.PROPERTYPUTREF, [oaut.NEW_VALUE], [worked.scalar(3, 8)]),
-            "a put of an object that is not there": worked.put(worked.COUNT, worked.scalar(3, 8), of=9),
+            "a put with PROPERTYGET too": oaut.ask_invoke(
+                1,
+                worked.COUNT,
+                oaut.PROPERTYPUT | oaut.PROPERTYGET,
+                [oaut.NEW_VALUE],
+                [worked.scalar(3, 8)],
+            ),
+            "PROPERTYPUTREF": oaut.ask_invoke(
+                1, worked.COUNT, oaut.PROPERTYPUTREF, [oaut.NEW_VALUE], [worked.scalar(3, 8)]
+            ),
+            "a put of an object that is not there": worked.put(
+                worked.COUNT, worked.scalar(3, 8), of=9
+            ),
             "PUTELEM": worked.put_element(worked.GRID, [0, 5], worked.scalar(2, 9)),
             "REDIM": worked.redim(worked.GRID, 1, 0),
             "LOCK": worked.call(oaut.LOCK, worked.GRID),
@@ -82,6 +93,15 @@ class Reading(Cases):
             "an opcode that there is none of": struct.pack("<HH", 99, 0),
             "the opcode 0 with a reserved number": struct.pack("<HH", 0, 0xFFFF),
         }
+
+    def test_each_opcode(self):
+        one = oaut.ask_create(worked.ITEM)
+        begin = [
+            one,
+            worked.put(worked.COUNT, worked.scalar(3, 7)),
+            worked.put(worked.GRID, worked.GRID_1_TO_6),
+        ]
+        reading, changing = self.reads(), self.changes()
         with self.gateway.dial() as writer, self.gateway.dial("listen-read") as reader:
             replies(writer, tagged(begin))
             asked = tagged(reading.values())
@@ -92,12 +112,23 @@ class Reading(Cases):
             for name, body, got in zip(changing, asked, replies(reader, asked)):
                 self.tell(f"{name} is refused", got == refused(body), got.hex())
             again = replies(writer, tagged([*reading.values(), oaut.ask_list()]))
-            self.tell("nothing has changed", again[:-1] == wanted and again[-1][16:20] == b"\1\0\0\0", again[-1].hex())
-            self.tell("a lock is nobody's", replies(writer, tagged([worked.redim(worked.GRID, 2, 0)]))[0][4:8] == bytes(4))
+            self.tell(
+                "nothing has changed",
+                again[:-1] == wanted and again[-1][16:20] == b"\1\0\0\0",
+                again[-1].hex(),
+            )
+            self.tell(
+                "a lock is nobody's",
+                replies(writer, tagged([worked.redim(worked.GRID, 2, 0)]))[0][4:8] == bytes(4),
+            )
         count = self.gateway.counters()["oaut_gateway_read_only_refused_total"]
         self.tell("they are counted", count == len(changing), count)
         status, said = self.gateway.end()
-        self.tell("it ends well", status == 0 and "Sanitizer" not in said and "runtime error" not in said, (status, said))
+        self.tell(
+            "it ends well",
+            status == 0 and "Sanitizer" not in said and "runtime error" not in said,
+            (status, said),
+        )
 
     def test_ends(self):
         """What comes last of a client, beside others that ask at the same time."""
@@ -105,8 +136,15 @@ class Reading(Cases):
         with self.gateway.dial() as writer:
             replies(writer, tagged([oaut.ask_create(worked.ITEM)]))
         for name in ("listen-read", "listen"):
-            one, put = tagged([count])[0], tagged([worked.put(worked.COUNT, worked.scalar(3, 1))])[0]
-            own = refused(put) if name == "listen-read" else struct.pack("<IIII", 1, 0, oaut.NO_INDEX, 0)
+            one, put = (
+                tagged([count])[0],
+                tagged([worked.put(worked.COUNT, worked.scalar(3, 1))])[0],
+            )
+            own = (
+                refused(put)
+                if name == "listen-read"
+                else struct.pack("<IIII", 1, 0, oaut.NO_INDEX, 0)
+            )
             for what, tail, last in (
                 ("nothing", b"", []),
                 ("a length of 0", bytes(4), []),
@@ -116,7 +154,11 @@ class Reading(Cases):
                 ("a length that is too long", b"\xff\xff\xff\xff", [STUB]),
             ):
                 got = bodies_of(self.gateway.ask(records([put, one, put]) + tail, name))
-                self.tell(f"{name}: {what}", got[:1] + got[2:3] == [own] * 2 and got[3:] == last and got[1][4:8] == bytes(4), [it.hex() for it in got])
+                self.tell(
+                    f"{name}: {what}",
+                    got[:1] + got[2:3] == [own] * 2 and got[3:] == last and got[1][4:8] == bytes(4),
+                    [it.hex() for it in got],
+                )
 
     def test_ends_of_many(self):
         dice = random.Random(int(os.environ.get("OAUT_SEED") or 0))
@@ -142,13 +184,19 @@ class Reading(Cases):
                     if name == "listen-hex":
                         continue
                     codes = [struct.unpack_from("<I", it, 4)[0] for it in bodies_of(got)]
-                    due = [MEMBER_NOT_FOUND if name == "listen-read" else 0x8001_0108] * count + [BAD_STUB] * (tail not in (b"", bytes(4)))
+                    due = [MEMBER_NOT_FOUND if name == "listen-read" else 0x8001_0108] * count + [
+                        BAD_STUB
+                    ] * (tail not in (b"", bytes(4)))
                     if codes != due:
                         wrong.append((name, count, tail, [hex(it) for it in codes]))
                 socks = []
         self.tell("each gets its own replies", not wrong, wrong[:3])
         status, said = self.gateway.end()
-        self.tell("it ends well", status == 0 and "Sanitizer" not in said and "runtime error" not in said, (status, said))
+        self.tell(
+            "it ends well",
+            status == 0 and "Sanitizer" not in said and "runtime error" not in said,
+            (status, said),
+        )
 
     def test_random_requests(self):
         """Requests by either socket in turns: each reply is the model's."""
@@ -199,8 +247,16 @@ class Users(Cases):
         for name, words, due in (
             ("nobody is named", [], (True, True)),
             ("this one may read", ["--allow-user", other, "--allow-read-user", own], (False, True)),
-            ("its group may read", ["--allow-user", other, "--allow-read-group", str(os.getgid())], (False, True)),
-            ("another one may read", ["--allow-user", own, "--allow-read-user", other], (True, True)),
+            (
+                "its group may read",
+                ["--allow-user", other, "--allow-read-group", str(os.getgid())],
+                (False, True),
+            ),
+            (
+                "another one may read",
+                ["--allow-user", own, "--allow-read-user", other],
+                (True, True),
+            ),
             ("neither", ["--allow-user", other, "--allow-read-user", other], (False, False)),
             ("readers alone are named", ["--allow-read-user", other], (True, False)),
         ):
@@ -215,7 +271,11 @@ class Users(Cases):
                 self.tell(name, got == due and watches == due[1], (got, watches))
 
     def test_tcp(self):
-        for words in (["--listen-read", "127.0.0.1:0", "--allow-read-user", "0"], ["--watch", "127.0.0.1:0", "--allow-user", "0"], ["--watch", "10.0.0.1:80"]):
+        for words in (
+            ["--listen-read", "127.0.0.1:0", "--allow-read-user", "0"],
+            ["--watch", "127.0.0.1:0", "--allow-user", "0"],
+            ["--watch", "10.0.0.1:80"],
+        ):
             with Gateway(*words, starts=False) as gateway:
                 gateway.start(waits=False)
                 self.tell(" ".join(words), gateway.end(None)[0] == 2)

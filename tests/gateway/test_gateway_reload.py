@@ -6,11 +6,11 @@ import threading
 import time
 import unittest
 
-from gateways import SECONDS, Gateway, hear, record
-from ports import free_port
-from preloaded import COMPILER
-from running import Cases
-from test_gateway import NO_REQUEST, NONE
+from tests.gateway.gateways import SECONDS, Gateway, hear, record
+from tests.gateway.test_gateway import NO_REQUEST, NONE
+from tests.support.ports import free_port
+from tests.support.preloaded import COMPILER
+from tests.support.running import Cases
 
 ANSWER = record(NO_REQUEST)
 OTHER = 4_242  # a user that nobody is here
@@ -19,12 +19,18 @@ OTHER = 4_242  # a user that nobody is here
 @unittest.skipUnless(COMPILER, "cc is not there")
 class Reload(Cases):
     def reload(self, name, gateway, *words, status=0, says=""):
-        done = subprocess.run([gateway.binary, "reload", f"{gateway.room}/control", *words], capture_output=True, text=True, timeout=SECONDS)
+        done = subprocess.run(
+            [gateway.binary, "reload", f"{gateway.room}/control", *words],
+            capture_output=True,
+            text=True,
+            timeout=SECONDS,
+        )
         said = done.stdout + done.stderr
         self.tell(name, done.returncode == status and says in said, (done.returncode, said))
 
     def settles(self, gateway, count):
-        """Waits until so many clients are connected: one that has hung up may be there for a moment."""
+        """Waits until so many clients are connected: one that has hung up may be there for a
+        moment."""
         gateway.settles(count)
 
     def is_served(self, gateway, beside=0):
@@ -58,7 +64,9 @@ class Reload(Cases):
     def test_users(self):
         with Gateway("--allow-user", str(OTHER)) as gateway:
             self.tell("one that may not come", not self.is_served(gateway))
-            self.reload("a reload", gateway, "--allow-user", str(OTHER), "--allow-user", str(os.getuid()))
+            self.reload(
+                "a reload", gateway, "--allow-user", str(OTHER), "--allow-user", str(os.getuid())
+            )
             self.tell("it may come now", self.is_served(gateway))
             self.settles(gateway, 0)
             with gateway.dial() as stays:
@@ -88,7 +96,10 @@ class Reload(Cases):
                 (["--clients", "5", "--idle", "-1"], "--idle -1"),
                 (["--clients", "0"], "--clients 0"),
                 (["--clients", "5", "--no-such", "1"], "--no-such"),
-                (["--clients", "5", "--listen", "/nowhere/else"], "--listen /nowhere/else is for a start: restart the gateway"),
+                (
+                    ["--clients", "5", "--listen", "/nowhere/else"],
+                    "--listen /nowhere/else is for a start: restart the gateway",
+                ),
                 (["--clients", "5", "--mode", "0666"], "--mode 0666 is for a start"),
                 (["--clients", "5", "store"], "a reload has options only"),
                 (["--clients", "5", "--allow-user", "no-such-user"], "--allow-user no-such-user"),
@@ -97,19 +108,40 @@ class Reload(Cases):
             sock.sendall(record(NONE))
             self.tell("the one client is served", hear(sock, len(ANSWER)) == ANSWER)
             self.tell("there is no second one", not self.is_served(gateway, 1))
-            self.reload("options of the start that are the same", gateway, "--clients", "5", "--listen", f"{gateway.room}/listen")
+            self.reload(
+                "options of the start that are the same",
+                gateway,
+                "--clients",
+                "5",
+                "--listen",
+                f"{gateway.room}/listen",
+            )
             self.tell("there is a second one now", self.is_served(gateway, 1))
 
     def test_more_descriptors_than_there_may_be(self):
         limited = ("bash", "-c", 'ulimit -n 200; exec "$@"', "bash")
         with Gateway("--clients", "10", under=limited) as gateway:
-            self.reload("a reload", gateway, "--clients", "500", status=2, says="--clients 500 needs more descriptors")
+            self.reload(
+                "a reload",
+                gateway,
+                "--clients",
+                "500",
+                status=2,
+                says="--clients 500 needs more descriptors",
+            )
             self.reload("one that there are enough for", gateway, "--clients", "100")
             self.tell("it serves", self.is_served(gateway))
 
     def test_tcp_has_no_users(self):
         with Gateway("--listen", f"127.0.0.1:{free_port()}") as gateway:
-            self.reload("a reload with a user", gateway, "--allow-user", "0", status=2, says="TCP clients have no user")
+            self.reload(
+                "a reload with a user",
+                gateway,
+                "--allow-user",
+                "0",
+                status=2,
+                says="TCP clients have no user",
+            )
             self.tell("all may come", self.is_served(gateway))
 
     def test_no_client_is_dropped(self):
@@ -132,7 +164,16 @@ class Reload(Cases):
             for it in threads:
                 it.start()
             for number in range(20):
-                self.reload("a reload", gateway, "--clients", str(100 + 37 * number), "--memory", str(16 + number), "--allow-user", str(os.getuid()))
+                self.reload(
+                    "a reload",
+                    gateway,
+                    "--clients",
+                    str(100 + 37 * number),
+                    "--memory",
+                    str(16 + number),
+                    "--allow-user",
+                    str(os.getuid()),
+                )
             Gateway.wait_for(lambda: failed or all(counts), "not all have put")
             stop.set()
             for it in threads:
@@ -141,5 +182,10 @@ class Reload(Cases):
 
     def test_who_is_not_there(self):
         with Gateway() as gateway:
-            done = subprocess.run([gateway.binary, "reload", f"{gateway.room}/none"], capture_output=True, text=True, timeout=SECONDS)
+            done = subprocess.run(
+                [gateway.binary, "reload", f"{gateway.room}/none"],
+                capture_output=True,
+                text=True,
+                timeout=SECONDS,
+            )
             self.tell("no gateway", done.returncode == 1 and "cannot connect" in done.stderr, done)

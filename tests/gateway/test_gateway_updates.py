@@ -1,4 +1,5 @@
-"""Clients that increment one number: each increment is there once, also if the server or the gateway is killed meanwhile."""
+"""Clients that increment one number: each increment is there once, also if the server or the
+gateway is killed meanwhile."""
 import json
 import os
 import signal
@@ -7,10 +8,10 @@ import sys
 import time
 import unittest
 
-from gateways import SECONDS, Gateway
-from preloaded import COMPILER
-from running import Cases
-from wire import oaut
+from tests.gateway.gateways import SECONDS, Gateway
+from tests.support.preloaded import COMPILER
+from tests.support.running import Cases
+from tests.support.wire import oaut
 
 ADDING = os.path.join(os.path.dirname(os.path.abspath(__file__)), "adding.py")
 CLIENTS = 16
@@ -52,13 +53,19 @@ class Updates(Cases):
             return int(item.Count)
 
     def checked(self, gateway, found, each, most_unknown=0):
-        """No two increments have made the same number, each client has made as many as it was to make, and of all numbers up to the last one at most so many were
-        never acknowledged."""
+        """No two increments have made the same number, each client has made as many as it was to
+        make, and of all numbers up to the last one at most so many were never acknowledged."""
         values = sorted(value for it in found for value in it["values"])
         last = self.count(gateway)
         self.tell("each client's", [len(it["values"]) for it in found] == [each] * CLIENTS)
-        self.tell("each number once", len(set(values)) == len(values) and values[0] >= 1 and values[-1] <= last, (values[:20], last))
-        self.tell("none is lost", last - len(values) <= most_unknown, (last, len(values), most_unknown))
+        self.tell(
+            "each number once",
+            len(set(values)) == len(values) and values[0] >= 1 and values[-1] <= last,
+            (values[:20], last),
+        )
+        self.tell(
+            "none is lost", last - len(values) <= most_unknown, (last, len(values), most_unknown)
+        )
 
     def test_many_clients(self):
         """10,000 increments of each, by 64 tasks of each."""
@@ -77,12 +84,17 @@ class Updates(Cases):
         self.tell("its end", gateway.end()[0] == 0)
 
     def test_kills(self):
-        """Of the server and of the gateway, in turns. One client at a time has the lock, so a kill leaves the increments of one unknown."""
+        """Of the server and of the gateway, in turns. One client at a time has the lock, so a kill
+        leaves the increments of one unknown."""
         gateway, tasks, each, kills = self.begun(), 16, 100, 0
         clients = Clients(gateway, "tasks", each, tasks)
         while kills < 4 and any(it.poll() is None for it in clients.all):
             before = self.seen(gateway)
-            Gateway.wait_for(lambda: self.seen(gateway) > before or all(it.poll() is not None for it in clients.all), "no increment is made")
+            Gateway.wait_for(
+                lambda: self.seen(gateway) > before
+                or all(it.poll() is not None for it in clients.all),
+                "no increment is made",
+            )
             if kills % 2 == 0:
                 os.kill(Gateway.wait_for(gateway.server, "there is no server"), signal.SIGKILL)
             else:
@@ -92,7 +104,11 @@ class Updates(Cases):
             kills += 1
         found = clients.end()
         ends = sum(it["ends"] for it in found)
-        self.tell("there were kills, and sessions that have ended", kills >= 2 and ends >= CLIENTS, (kills, ends))
+        self.tell(
+            "there were kills, and sessions that have ended",
+            kills >= 2 and ends >= CLIENTS,
+            (kills, ends),
+        )
         self.checked(gateway, found, each, kills * tasks)
         self.tell("its end", gateway.end()[0] == 0)
 

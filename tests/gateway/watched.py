@@ -1,21 +1,55 @@
-"""What a read-only socket refuses, and what those who watch are told, by docs/operations/gateway.md alone.
+"""What a read-only socket refuses, and what those who watch are told, by docs/operations/gateway.md
+alone.
 
-`Told().lines(asked)` has a line for each request with its reply, in their order, as json.loads gives it."""
+`Told().lines(asked)` has a line for each request with its reply, in their order, as json.loads
+gives it."""
 import json
 import struct
 import uuid
 
-import wire  # (which finds the package)
-from codes import BAD_STUB, MEMBER_NOT_FOUND
-from wire import oaut
+from tests.support import wire  # (which finds the package)
+from tests.support.codes import BAD_STUB, MEMBER_NOT_FOUND
+from tests.support.wire import oaut
 
 assert wire.oaut is oaut
-CREATE, RELEASE, GETIDS, INVOKE, GETELEM, PUTELEM, REDIM, LOCK, UNLOCK, TYPEINFO, LIST, REPLACE = range(1, 13)
-KINDS = {CREATE: "create", RELEASE: "release", INVOKE: "put", PUTELEM: "element", REDIM: "redimension", REPLACE: "library"}
+(
+    CREATE,
+    RELEASE,
+    GETIDS,
+    INVOKE,
+    GETELEM,
+    PUTELEM,
+    REDIM,
+    LOCK,
+    UNLOCK,
+    TYPEINFO,
+    LIST,
+    REPLACE,
+) = range(1, 13)
+KINDS = {
+    CREATE: "create",
+    RELEASE: "release",
+    INVOKE: "put",
+    PUTELEM: "element",
+    REDIM: "redimension",
+    REPLACE: "library",
+}
 SHOWN, KEY_SHOWN = 65_536, 4_096
 OWN = 0xFFFF_FFFE  # the gateway's own number
 # how struct names the number of a value
-NUMBERS = {16: "b", 17: "B", 2: "h", 18: "H", 3: "i", 22: "i", 19: "I", 23: "I", 10: "I", 20: "4xq", 21: "4xQ"}
+NUMBERS = {
+    16: "b",
+    17: "B",
+    2: "h",
+    18: "H",
+    3: "i",
+    22: "i",
+    19: "I",
+    23: "I",
+    10: "I",
+    20: "4xq",
+    21: "4xQ",
+}
 
 
 def opcode_of(body):
@@ -28,7 +62,9 @@ def reads(body):
         return True
     opcode = opcode_of(body)
     if opcode == INVOKE:
-        return len(body) < 56 or not struct.unpack_from("<H", body, 52)[0] & (oaut.PROPERTYPUT | oaut.PROPERTYPUTREF)
+        return len(body) < 56 or not struct.unpack_from("<H", body, 52)[0] & (
+            oaut.PROPERTYPUT | oaut.PROPERTYPUTREF
+        )
     return opcode in (GETIDS, GETELEM, TYPEINFO, LIST) or (opcode == REPLACE and len(body) == 8)
 
 
@@ -41,7 +77,9 @@ def passed(body):
 
 def refused(body):
     """The reply of a read-only socket to a body that may change something."""
-    return struct.pack("<IIII", struct.unpack_from("<I", body)[0], MEMBER_NOT_FOUND, oaut.NO_INDEX, 0)
+    return struct.pack(
+        "<IIII", struct.unpack_from("<I", body)[0], MEMBER_NOT_FOUND, oaut.NO_INDEX, 0
+    )
 
 
 def unpatched(body, reply):
@@ -69,7 +107,16 @@ def value_of(field):
             return {"type": vt, "value": None}
         if size % 2 == 0:
             # (json makes one character of two surrogates, and leaves one alone)
-            return {"type": vt, "value": json.loads('"' + "".join(f"\\u{it:04x}" for it in struct.unpack_from(f"<{size // 2}H", field, 36)) + '"')}
+            return {
+                "type": vt,
+                "value": json.loads(
+                    '"'
+                    + "".join(
+                        f"\\u{it:04x}" for it in struct.unpack_from(f"<{size // 2}H", field, 36)
+                    )
+                    + '"'
+                ),
+            }
     return {"type": vt, "wire": field.hex()}
 
 
@@ -87,7 +134,9 @@ class Told:
         opcode = opcode_of(body)
         if client == OWN and opcode == LIST:
             self.classes = {number: str(of) for number, of in oaut.read_objects(reply[16:])}
-        if opcode not in KINDS or (opcode == INVOKE and not struct.unpack_from("<H", body, 52)[0] & oaut.PROPERTYPUT):
+        if opcode not in KINDS or (
+            opcode == INVOKE and not struct.unpack_from("<H", body, 52)[0] & oaut.PROPERTYPUT
+        ):
             return None
         found = {"seq": self.number, "kind": KINDS[opcode]}
         self.number += 1
@@ -124,7 +173,14 @@ class Told:
             if place == new:
                 continue
             name = {"name": named[place]} if place < names else {}
-            key.append(name | (value_of(fields[place]) if len(fields[place]) <= KEY_SHOWN else {"bytes": len(fields[place])}))
+            key.append(
+                name
+                | (
+                    value_of(fields[place])
+                    if len(fields[place]) <= KEY_SHOWN
+                    else {"bytes": len(fields[place])}
+                )
+            )
         if key:
             found["key"] = key
         if opcode == REDIM:
@@ -139,7 +195,8 @@ class Told:
 
 
 def answered(asked, told):
-    """Triples of a client, a body and its reply, of what a server was asked and told, in their order."""
+    """Triples of a client, a body and its reply, of what a server was asked and told, in their
+    order."""
     replies = [it for it in told if it[1]]
     place = 0
     for client, what in asked:

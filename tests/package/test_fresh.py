@@ -1,5 +1,6 @@
-"""From a fresh Debian root to unmodified DCOM clients: `apt install` of the package in a container that is booted, four lines of configuration as
-docs/guide/dcom.md has them, then impacket and Samba with NTLM and with Kerberos, which are this machine's and enter the container's network."""
+"""From a fresh Debian root to unmodified DCOM clients: `apt install` of the package in a container
+that is booted, four lines of configuration as docs/guide/dcom.md has them, then impacket and Samba
+with NTLM and with Kerberos, which are this machine's and enter the container's network."""
 import contextlib
 import os
 import shutil
@@ -8,11 +9,11 @@ import tempfile
 import time
 import unittest
 
-import fresh
-from booted import UNIT, mounted
-from dcoms import REALM, SECONDS, Kdc, Scripted, environment, left_out, needs
-from running import PROGRAM
-from test_dist import HAS_ROOT, packed
+from tests.dcom.dcoms import REALM, SECONDS, Kdc, Scripted, environment, left_out, needs
+from tests.package import fresh
+from tests.package.booted import UNIT, mounted
+from tests.package.test_dist import HAS_ROOT, packed
+from tests.support.running import PROGRAM
 
 HOST, PORT = "127.0.0.1", 13135
 INSTALLED = r"""
@@ -46,13 +47,32 @@ class Container:
 
     def __init__(self, root, script, files):
         self.root = root
-        for path, content in {**files, "/tried.sh": script.encode(), "/etc/systemd/system/tried.service": UNIT.encode()}.items():
+        for path, content in {
+            **files,
+            "/tried.sh": script.encode(),
+            "/etc/systemd/system/tried.service": UNIT.encode(),
+        }.items():
             os.makedirs(os.path.dirname(root + path), exist_ok=True)
             with open(root + path, "wb") as file:
                 file.write(content)
-        words = ["systemd-nspawn", "-D", root, "-M", f"oaut-fresh-{os.getpid()}", "--register=no", "--keep-unit", "--private-network", "--link-journal=no"]
+        words = [
+            "systemd-nspawn",
+            "-D",
+            root,
+            "-M",
+            f"oaut-fresh-{os.getpid()}",
+            "--register=no",
+            "--keep-unit",
+            "--private-network",
+            "--link-journal=no",
+        ]
         self.log = open(f"{root}.log", "wb")
-        self.process = subprocess.Popen([*words, "-b", "systemd.unit=tried.service"], stdin=subprocess.DEVNULL, stdout=self.log, stderr=self.log)
+        self.process = subprocess.Popen(
+            [*words, "-b", "systemd.unit=tried.service"],
+            stdin=subprocess.DEVNULL,
+            stdout=self.log,
+            stderr=self.log,
+        )
 
     def wait_for(self, name):
         """Waits until the script has made a file."""
@@ -71,13 +91,19 @@ class Container:
 
     def said(self):
         found = ""
-        for it in (f"{self.root}.log", f"{self.root}/apt.log", f"{self.root}/tried.out", f"{self.root}/tried.err"):
+        for it in (
+            f"{self.root}.log",
+            f"{self.root}/apt.log",
+            f"{self.root}/tried.out",
+            f"{self.root}/tried.err",
+        ):
             with contextlib.suppress(OSError), open(it, errors="replace") as file:
                 found += f"\n{os.path.basename(it)}: {file.read()[-1_500:]}"
         return found
 
     def enter(self):
-        """Words that run a command in the container's network: that of the first process which has another one than ours."""
+        """Words that run a command in the container's network: that of the first process which has
+        another one than ours."""
         own, found = os.readlink("/proc/self/ns/net"), [self.process.pid]
         for it in found:
             with contextlib.suppress(OSError):
@@ -99,18 +125,22 @@ class Container:
 
 
 def missing():
-    """Why there is no such container here, or nothing. It takes minutes and needs a mirror of Debian, so it is made if that is asked for."""
+    """Why there is no such container here, or nothing. It takes minutes and needs a mirror of
+    Debian, so it is made if that is asked for."""
     if not os.environ.get("OAUT_FRESH"):
         return "OAUT_FRESH is not set (a fresh root is made from a mirror of Debian, in minutes)"
     if not HAS_ROOT or not os.path.exists(PROGRAM):
         return "no package: not the superuser, no dpkg-deb or no program"
-    tools = [it for it in ("systemd-nspawn", "nsenter", "unshare", "apt-get") if not shutil.which(it)]
+    tools = [
+        it for it in ("systemd-nspawn", "nsenter", "unshare", "apt-get") if not shutil.which(it)
+    ]
     return f"{', '.join(tools)} not there" if tools else ""
 
 
 @unittest.skipIf(missing(), missing())
 class Fresh(Scripted):
-    """The tests have numbers, since they are run in this order: each one tells the container to go on."""
+    """The tests have numbers, since they are run in this order: each one tells the container to go
+    on."""
 
     @classmethod
     def setUpClass(cls):
@@ -125,18 +155,33 @@ class Fresh(Scripted):
         except fresh.Missing as why:
             raise unittest.SkipTest(f"no fresh root of Debian: {' '.join(str(why).split())}"[:400])
         with open(packed().stdout.splitlines()[1], "rb") as file:
-            cls.container = Container(root, INSTALLED, {"/oaut.deb": file.read(), "/items.keytab": b""})
+            cls.container = Container(
+                root, INSTALLED, {"/oaut.deb": file.read(), "/items.keytab": b""}
+            )
         cls.stack.callback(cls.container.close)
         cls.container.wait_for("ready1")
         cls.enter = cls.container.enter()
         cls.env = environment(DCOM_HOST=HOST, DCOM_RESOLVER="135", DCOM_PORT=str(PORT))
 
     def samba(self, *words, least, **variables):
-        self.script("with_samba.py", *words, modules=("Cryptodome", "samba"), env={**self.env, **variables}, least=least, enter=self.enter)
+        self.script(
+            "with_samba",
+            *words,
+            modules=("Cryptodome", "samba"),
+            env={**self.env, **variables},
+            least=least,
+            enter=self.enter,
+        )
 
     @needs("Cryptodome", "impacket")
     def test_1_impacket(self):
-        self.script("with_impacket.py", modules=("Cryptodome", "impacket"), env=self.env, least=200, enter=self.enter)
+        self.script(
+            "with_impacket",
+            modules=("Cryptodome", "impacket"),
+            env=self.env,
+            least=200,
+            enter=self.enter,
+        )
 
     @needs("Cryptodome", "samba")
     def test_2_samba(self):
@@ -157,9 +202,16 @@ class Fresh(Scripted):
         self.container.process.wait(SECONDS * 2)
         with open(f"{self.container.root}/tried.out") as file:
             said = dict(line.split(": ", 1) for line in file.read().splitlines() if ": " in line)
-        wanted = {"apt": "0", "packages": "oaut ii ,python3-pycryptodome ii ,", "services": "active active ", "unexpected": "."}
+        wanted = {
+            "apt": "0",
+            "packages": "oaut ii ,python3-pycryptodome ii ,",
+            "services": "active active ",
+            "unexpected": ".",
+        }
         for what, it in wanted.items():
-            self.tell(f"in the fresh root, {what}", said.get(what) == it, (said, self.container.said()))
+            self.tell(
+                f"in the fresh root, {what}", said.get(what) == it, (said, self.container.said())
+            )
 
 
 if __name__ == "__main__":

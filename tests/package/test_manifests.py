@@ -1,4 +1,5 @@
-"""The manifests of dist/kubernetes: what the schema of Kubernetes says of them, and what has to agree within and between stores."""
+"""The manifests of dist/kubernetes: what the schema of Kubernetes says of them, and what has to
+agree within and between stores."""
 import contextlib
 import functools
 import importlib.machinery
@@ -15,10 +16,10 @@ import threading
 import unittest
 from unittest import mock
 
-from certificates import Authority
-from gateways import SECONDS, Gateway, left_out
-from running import ROOT, Cases
-from wire import oaut
+from tests.gateway.gateways import SECONDS, Gateway, left_out
+from tests.support.certificates import Authority
+from tests.support.running import ROOT, Cases
+from tests.support.wire import oaut
 
 FOLDER = f"{ROOT}/dist/kubernetes"
 CHECK = f"{os.path.dirname(os.path.abspath(__file__))}/manifests.py"
@@ -28,22 +29,36 @@ CHECK = f"{os.path.dirname(os.path.abspath(__file__))}/manifests.py"
 def python():
     """A Python that has the models, or nothing."""
     for it in dict.fromkeys((sys.executable, "/usr/bin/python3")):
-        if os.path.exists(it) and not subprocess.run([it, "-c", "import kubernetes, yaml"], capture_output=True).returncode:
+        if (
+            os.path.exists(it)
+            and not subprocess.run(
+                [it, "-c", "import kubernetes, yaml"], capture_output=True
+            ).returncode
+        ):
             return it
     return ""
 
 
 @functools.lru_cache(None)
 def built_by_kustomize(name):
-    """A folder of manifests as kustomize puts it together; nothing if there is none, or one that is too old for it."""
+    """A folder of manifests as kustomize puts it together; nothing if there is none, or one that is
+    too old for it."""
     if not shutil.which("kubectl"):
         return ""
-    done = subprocess.run(["kubectl", "kustomize", f"{FOLDER}/{name}"], capture_output=True, text=True)
-    return "" if done.returncode and re.search(r"unknown field|invalid Kustomization", done.stderr) else done.stdout or done.stderr
+    done = subprocess.run(
+        ["kubectl", "kustomize", f"{FOLDER}/{name}"], capture_output=True, text=True
+    )
+    return (
+        ""
+        if done.returncode and re.search(r"unknown field|invalid Kustomization", done.stderr)
+        else done.stdout or done.stderr
+    )
 
 
 needs_models = unittest.skipUnless(python(), "python3-kubernetes is not there")
-needs_kustomize = unittest.skipUnless(built_by_kustomize("base"), "a kubectl with kustomize 4.1 or later is not there")
+needs_kustomize = unittest.skipUnless(
+    built_by_kustomize("base"), "a kubectl with kustomize 4.1 or later is not there"
+)
 
 
 def faults(text):
@@ -69,10 +84,19 @@ def text_of(path):
 
 class Starts(Cases):
     def test_a_store_may_take_minutes_to_open(self):
-        """Two banks of 1 GiB on a slow volume: nothing kills what makes or opens such a store, and begins anew."""
-        probe = re.search(r"(?m)^( +)startupProbe:\n((?:\1 +.*\n)+)", text_of("base/statefulset.yaml"))
-        numbers = dict(re.findall(r"(periodSeconds|failureThreshold): (\d+)", probe[2] if probe else ""))
-        self.tell("in a pod", int(numbers.get("periodSeconds", 0)) * int(numbers.get("failureThreshold", 0)) >= 600, numbers)
+        """Two banks of 1 GiB on a slow volume: nothing kills what makes or opens such a store, and
+        begins anew."""
+        probe = re.search(
+            r"(?m)^( +)startupProbe:\n((?:\1 +.*\n)+)", text_of("base/statefulset.yaml")
+        )
+        numbers = dict(
+            re.findall(r"(periodSeconds|failureThreshold): (\d+)", probe[2] if probe else "")
+        )
+        self.tell(
+            "in a pod",
+            int(numbers.get("periodSeconds", 0)) * int(numbers.get("failureThreshold", 0)) >= 600,
+            numbers,
+        )
         with open(f"{ROOT}/dist/units/oaut@.service") as file:
             given = re.search(r"(?m)^TimeoutStartSec=(\d+)min$", file.read())
         self.tell("as a service", given and int(given[1]) >= 10, given)
@@ -80,13 +104,18 @@ class Starts(Cases):
 
 class Probes(Cases):
     def test_at_the_limit_of_clients(self):
-        """The gateway turns the probe away, and serves all the same: no client is kept from the pod for that."""
+        """The gateway turns the probe away, and serves all the same: no client is kept from the pod
+        for that."""
         loader = importlib.machinery.SourceFileLoader("probe", f"{ROOT}/dist/container/probe")
         probe = importlib.util.module_from_spec(importlib.util.spec_from_loader("probe", loader))
         loader.exec_module(probe)
         with tempfile.TemporaryDirectory() as room, Gateway("--clients", "1") as gateway:
             os.symlink(gateway.binary, f"{room}/oaut-gateway")
-            probe.SOCKET, probe.CONTROL, probe.SECONDS = f"{gateway.room}/listen", f"{gateway.room}/control", SECONDS
+            probe.SOCKET, probe.CONTROL, probe.SECONDS = (
+                f"{gateway.room}/listen",
+                f"{gateway.room}/control",
+                SECONDS,
+            )
             with mock.patch.dict(os.environ, {"PATH": f"{room}:{os.environ['PATH']}"}):
                 gateway.settles()
                 self.tell("it is ready", probe.is_ready())
@@ -98,7 +127,10 @@ class Probes(Cases):
                     os.kill(process, signal.SIGSTOP)
                     asking = threading.Thread(target=lambda: item.Count)
                     asking.start()
-                    Gateway.wait_for(lambda: gateway.counters()["oaut_gateway_unanswered_seconds"] > 1.5, "the server answers")
+                    Gateway.wait_for(
+                        lambda: gateway.counters()["oaut_gateway_unanswered_seconds"] > 1.5,
+                        "the server answers",
+                    )
                     probe.SECONDS = 1
                     self.tell("not if the server does not answer", not probe.is_ready())
                     probe.SECONDS = SECONDS
@@ -120,18 +152,57 @@ class Schema(Cases):
     def test_overlays(self):
         for name in ("base", "second", "tls"):
             lines, last = faults(built_by_kustomize(name))
-            self.tell(f"{name}: {last}", not lines and int(last.split()[0]) >= 7, lines or built_by_kustomize(name)[-500:])
+            self.tell(
+                f"{name}: {last}",
+                not lines and int(last.split()[0]) >= 7,
+                lines or built_by_kustomize(name)[-500:],
+            )
 
     def test_faults_are_found(self):
         """The same manifests with one fault each."""
         rows = (
-            ("backup.yaml", "concurrencyPolicy:", "concurrency:", "CronJob.spec.concurrency: V1CronJobSpec has no such key"),
-            ("backup.yaml", "backoffLimit: 2", 'backoffLimit: "2"', "CronJob.spec.jobTemplate.spec.backoffLimit: '2' is no int"),
-            ("backup.yaml", 'accessModes: ["ReadWriteOnce"]', "accessModes: ReadWriteOnce", "PersistentVolumeClaim.spec.accessModes: is no list"),
-            ("statefulset.yaml", "  serviceName: store\n", "", "StatefulSet.spec: Invalid value for `service_name`, must not be `None`"),
-            ("statefulset.yaml", "runAsNonRoot: true", "runAsNonRoot: 1", "StatefulSet.spec.template.spec.securityContext.runAsNonRoot: 1 is no bool"),
-            ("statefulset.yaml", "emptyDir: {}", "emptyDir: []", "StatefulSet.spec.template.spec.volumes[0].emptyDir: is no mapping"),
-            ("networkpolicy.yaml", "kind: NetworkPolicy", "kind: NetworkPolicies", "networking.k8s.io/v1 NetworkPolicies: there is no such kind"),
+            (
+                "backup.yaml",
+                "concurrencyPolicy:",
+                "concurrency:",
+                "CronJob.spec.concurrency: V1CronJobSpec has no such key",
+            ),
+            (
+                "backup.yaml",
+                "backoffLimit: 2",
+                'backoffLimit: "2"',
+                "CronJob.spec.jobTemplate.spec.backoffLimit: '2' is no int",
+            ),
+            (
+                "backup.yaml",
+                'accessModes: ["ReadWriteOnce"]',
+                "accessModes: ReadWriteOnce",
+                "PersistentVolumeClaim.spec.accessModes: is no list",
+            ),
+            (
+                "statefulset.yaml",
+                "  serviceName: store\n",
+                "",
+                "StatefulSet.spec: Invalid value for `service_name`, must not be `None`",
+            ),
+            (
+                "statefulset.yaml",
+                "runAsNonRoot: true",
+                "runAsNonRoot: 1",
+                "StatefulSet.spec.template.spec.securityContext.runAsNonRoot: 1 is no bool",
+            ),
+            (
+                "statefulset.yaml",
+                "emptyDir: {}",
+                "emptyDir: []",
+                "StatefulSet.spec.template.spec.volumes[0].emptyDir: is no mapping",
+            ),
+            (
+                "networkpolicy.yaml",
+                "kind: NetworkPolicy",
+                "kind: NetworkPolicies",
+                "networking.k8s.io/v1 NetworkPolicies: there is no such kind",
+            ),
         )
         for name, old, new, wanted in rows:
             text = text_of(f"base/{name}")
@@ -158,7 +229,9 @@ def selectors_of(documents_of_it):
         elif it["kind"] in ("StatefulSet", "PodDisruptionBudget"):
             yield it["kind"], spec["selector"]["matchLabels"]
         elif it["kind"] == "CronJob":
-            terms = spec["jobTemplate"]["spec"]["template"]["spec"]["affinity"]["podAffinity"]["requiredDuringSchedulingIgnoredDuringExecution"]
+            terms = spec["jobTemplate"]["spec"]["template"]["spec"]["affinity"]["podAffinity"][
+                "requiredDuringSchedulingIgnoredDuringExecution"
+            ]
             yield "CronJob's affinity", terms[0]["labelSelector"]["matchLabels"]
 
 
@@ -168,19 +241,36 @@ class Agreement(Cases):
         return documents(built_by_kustomize(name))
 
     def test_stores_do_not_mix(self):
-        """What selects pods selects those of its own store, and of no other one. The pod of a backup is none of these."""
+        """What selects pods selects those of its own store, and of no other one. The pod of a
+        backup is none of these."""
         for own, other in (("base", "second"), ("second", "base"), ("tls", "second")):
             for kind, selector in selectors_of(self.of(own)):
                 labels = pod_of(self.of(own))["metadata"]["labels"]
-                self.tell(f"{own}: {kind} selects its own pod", labels_match(selector, labels), (selector, labels))
+                self.tell(
+                    f"{own}: {kind} selects its own pod",
+                    labels_match(selector, labels),
+                    (selector, labels),
+                )
                 labels = pod_of(self.of(other))["metadata"]["labels"]
-                self.tell(f"{own}: {kind} does not select the pod of {other}", not labels_match(selector, labels), (selector, labels))
-                job = next(it for it in self.of(own) if it["kind"] == "CronJob")["spec"]["jobTemplate"]["spec"]["template"]
-                self.tell(f"{own}: {kind} does not select the pod of the backup", not labels_match(selector, job["metadata"]["labels"]))
+                self.tell(
+                    f"{own}: {kind} does not select the pod of {other}",
+                    not labels_match(selector, labels),
+                    (selector, labels),
+                )
+                job = next(it for it in self.of(own) if it["kind"] == "CronJob")["spec"][
+                    "jobTemplate"
+                ]["spec"]["template"]
+                self.tell(
+                    f"{own}: {kind} does not select the pod of the backup",
+                    not labels_match(selector, job["metadata"]["labels"]),
+                )
 
     def test_names(self):
         """Two stores share no name, and what a pod mounts is there."""
-        names = {of: {(it["kind"], it["metadata"]["name"]) for it in self.of(of)} for of in ("base", "second")}
+        names = {
+            of: {(it["kind"], it["metadata"]["name"]) for it in self.of(of)}
+            for of in ("base", "second")
+        }
         self.tell("no name of both", not names["base"] & names["second"], names)
         for of in ("base", "second", "tls"):
             found = {it["metadata"]["name"] for it in self.of(of) if it["kind"] == "ConfigMap"}
@@ -192,49 +282,100 @@ class Agreement(Cases):
             self.tell(f"{of}: volumes", mounted <= volumes, (mounted, volumes))
 
     def test_the_backup(self):
-        """It mounts the claim of its own store, runs as the same user, and asks a control socket that the gateway has there."""
+        """It mounts the claim of its own store, runs as the same user, and asks a control socket
+        that the gateway has there."""
         for of in ("base", "second", "tls"):
             every = self.of(of)
             store = next(it for it in every if it["kind"] == "StatefulSet")
-            job = next(it for it in every if it["kind"] == "CronJob")["spec"]["jobTemplate"]["spec"]["template"]["spec"]
+            job = next(it for it in every if it["kind"] == "CronJob")["spec"]["jobTemplate"][
+                "spec"
+            ]["template"]["spec"]
             claims = {it["name"]: it["persistentVolumeClaim"]["claimName"] for it in job["volumes"]}
             own = f"data-{store['metadata']['name']}-0"
             self.tell(f"{of}: its claim", claims["data"] == own, (claims, own))
-            there = {it["metadata"]["name"] for it in every if it["kind"] == "PersistentVolumeClaim"}
+            there = {
+                it["metadata"]["name"] for it in every if it["kind"] == "PersistentVolumeClaim"
+            }
             self.tell(f"{of}: the claim of the copies", claims["backup"] in there, (claims, there))
             pod = store["spec"]["template"]["spec"]
             users = [it["securityContext"]["runAsUser"] for it in (job, pod)]
             self.tell(f"{of}: its user", users[0] == users[1], users)
             words, args = job["containers"][0]["command"], pod["containers"][0]["args"]
             sockets = [args[at + 1] for at, it in enumerate(args) if it == "--control"]
-            self.tell(f"{of}: its control socket", words[3] in sockets and words[3].startswith("/data/"), (words, sockets))
+            self.tell(
+                f"{of}: its control socket",
+                words[3] in sockets and words[3].startswith("/data/"),
+                (words, sockets),
+            )
             self.tell(f"{of}: that of the probes", "/run/oaut/control.sock" in sockets, sockets)
             places = {it["mountPath"]: it["name"] for it in job["containers"][0]["volumeMounts"]}
-            self.tell(f"{of}: the store is where the gateway has it", places == {"/data": "data", "/backup": "backup"}, places)
+            self.tell(
+                f"{of}: the store is where the gateway has it",
+                places == {"/data": "data", "/backup": "backup"},
+                places,
+            )
 
     def test_who_may_connect(self):
-        """The base lets pods with a label in; with TLS anybody may connect, since certificates decide."""
-        for of, wanted in (("base", [{"podSelector": {"matchExpressions": [{"key": "oaut-client", "operator": "In", "values": ["true"]}]}}]), ("tls", None)):
-            rule = next(it for it in self.of(of) if it["kind"] == "NetworkPolicy")["spec"]["ingress"]
+        """The base lets pods with a label in; with TLS anybody may connect, since certificates
+        decide."""
+        for of, wanted in (
+            (
+                "base",
+                [
+                    {
+                        "podSelector": {
+                            "matchExpressions": [
+                                {"key": "oaut-client", "operator": "In", "values": ["true"]}
+                            ]
+                        }
+                    }
+                ],
+            ),
+            ("tls", None),
+        ):
+            rule = next(it for it in self.of(of) if it["kind"] == "NetworkPolicy")["spec"][
+                "ingress"
+            ]
             self.tell(f"{of}: from whom", len(rule) == 1 and rule[0].get("from") == wanted, rule)
-            self.tell(f"{of}: which port", rule[0]["ports"] == [{"protocol": "TCP", "port": 8766}], rule)
+            self.tell(
+                f"{of}: which port", rule[0]["ports"] == [{"protocol": "TCP", "port": 8766}], rule
+            )
 
 
 @left_out("haproxy", "openssl", "cc")
 class Tls(Cases):
-    """The configuration of HAProxy in the overlay, with the paths of this test, before a gateway."""
+    """The configuration of HAProxy in the overlay, with the paths of this test, before a
+    gateway."""
 
     def test_a_session(self):
-        with Gateway(sockets=("listen",)) as gateway, tempfile.TemporaryDirectory() as room, contextlib.ExitStack() as stack:
-            stores, clients, others = (Authority(room, it) for it in ("stores", "clients", "others"))
+        with Gateway(
+            sockets=("listen",)
+        ) as gateway, tempfile.TemporaryDirectory() as room, contextlib.ExitStack() as stack:
+            stores, clients, others = (
+                Authority(room, it) for it in ("stores", "clients", "others")
+            )
             # (clients.pem is the authority's own file)
             shutil.copy(stores.both("server", "items.stores.example"), f"{room}/server.pem")
-            text = text_of("tls/haproxy.cfg").replace("/etc/certificates", room).replace("/run/oaut/oaut.sock", f"{gateway.room}/listen")
+            text = (
+                text_of("tls/haproxy.cfg")
+                .replace("/etc/certificates", room)
+                .replace("/run/oaut/oaut.sock", f"{gateway.room}/listen")
+            )
             with open(f"{room}/haproxy.cfg", "w") as file:
                 file.write(re.sub(r"bind :8766 ", f"bind unix@{room}/tls.sock ", text))
-            done = subprocess.run(["haproxy", "-c", "-f", f"{room}/haproxy.cfg"], capture_output=True, text=True)
-            self.tell("HAProxy takes it", done.returncode == 0 and "WARNING" not in done.stderr.upper(), done.stderr + done.stdout)
-            child = subprocess.Popen(["haproxy", "-db", "-f", f"{room}/haproxy.cfg"], stdout=subprocess.DEVNULL, stderr=subprocess.DEVNULL)
+            done = subprocess.run(
+                ["haproxy", "-c", "-f", f"{room}/haproxy.cfg"], capture_output=True, text=True
+            )
+            self.tell(
+                "HAProxy takes it",
+                done.returncode == 0 and "WARNING" not in done.stderr.upper(),
+                done.stderr + done.stdout,
+            )
+            child = subprocess.Popen(
+                ["haproxy", "-db", "-f", f"{room}/haproxy.cfg"],
+                stdout=subprocess.DEVNULL,
+                stderr=subprocess.DEVNULL,
+            )
             stack.callback(child.wait)
             stack.callback(child.kill)
             Gateway.wait_for(lambda: listens(f"{room}/tls.sock"), "HAProxy does not listen")
@@ -244,7 +385,11 @@ class Tls(Cases):
                 ("another's", others, "ClientCertificateRefused"),
                 ("none", None, "ClientCertificateRefused"),
             ):
-                self.tell(f"a client with a certificate of {name}", (got := self.asked(port, room, authority)) == wanted, got)
+                self.tell(
+                    f"a client with a certificate of {name}",
+                    (got := self.asked(port, room, authority)) == wanted,
+                    got,
+                )
 
     def asked(self, port, room, authority):
         """What a client gets: a count, or the name of what it raises."""
@@ -269,7 +414,8 @@ def listens(path):
 
 
 def forwarded(stack, path):
-    """A port of this machine that leads to a socket. HAProxy's own port cannot be drawn without a race."""
+    """A port of this machine that leads to a socket. HAProxy's own port cannot be drawn without a
+    race."""
     there = socket.create_server(("127.0.0.1", 0))
     stack.callback(there.close)
 

@@ -1,19 +1,21 @@
-"""The words of pages, manual pages, docstrings, messages and `--help` texts: tools/style.py finds nothing in them, and finds each kind of sentence that it is for."""
+"""The words of pages, manual pages, docstrings, messages and `--help` texts: tools/style.py finds
+nothing in them, and finds each kind of sentence that it is for."""
 import os
-import sys
 import tempfile
 import unittest
 
-from running import ROOT, Cases
+from tests.support.running import ROOT, Cases
 
-sys.path.insert(0, f"{ROOT}/tools")
-import style
+from tools import style
 
 # sentences that the pages had, each with the rule against it
 FOUND = (
     ("`behind`", "A commit counts from here on: what is behind it is read as a group."),
     ("`behind`", "- The reply of a group leaves behind its gate."),
-    ("`where` for `if` or `when`", "Where requests have used their half, who begins a long one waits for room."),
+    (
+        "`where` for `if` or `when`",
+        "Where requests have used their half, who begins a long one waits for room.",
+    ),
     ("`where` for `if` or `when`", "It is refused exactly where no bytes spell a value."),
     ("`where` for `if` or `when`", "| `--bank` | 20,971,520 bytes where nothing is said |"),
     ("`is told`", "Another thread is told `oaut.SessionInUse`, and nothing is sent."),
@@ -30,10 +32,16 @@ FOUND = (
 )
 # sentences and code that no rule is against
 CLEAN = (
-    "The server replies after the change is on disk. See the page where a store is described, and where to put one.",
+    (
+        "The server replies after the change is on disk. See the page where a store is described, "
+        "and where to put one."
+    ),
     "Where is my store? What happens after a crash?",
     "# What is proved\n\nA crash never loses an acknowledged write.",
-    "Run this:\n\n    oaut dump items.store  # where nothing is said, behind it\n\n```sql\nSELECT a WHERE b\n```",
+    (
+        "Run this:\n\n    oaut dump items.store  # where nothing is said, behind it\n\n```sql\n"
+        "SELECT a WHERE b\n```"
+    ),
     "`where` and `behind` are words of code, as [is a link](where-it-is.md).",
     " ".join(["word"] * 20) + ". " + " ".join(["Word"] * 20) + ".",
     "| Place | Meaning |\n|---|---|\n| a..b | a range |",
@@ -43,7 +51,11 @@ PYTHON = (
     (1, "begins with `Who` or `What`", '"""Who waits for a reply of it."""\n'),
     (4, "`is told`", 'def act():\n    """It ends.\n\n    The caller is told so."""\n'),
     (1, "`behind`", 'raise ValueError(f"{what} is behind that, which is missing")\n'),
-    (2, "`where` for `if` or `when`", 'parser.add_argument(\n    "--bank", help="bytes; 20,971,520 where " "nothing is said")\n'),
+    (
+        2,
+        "`where` for `if` or `when`",
+        'parser.add_argument(\n    "--bank", help="bytes; 20,971,520 where " "nothing is said")\n',
+    ),
     (1, "40 words", f'help="{" ".join(["the word"] * 20)}"\n'),
 )
 C = (
@@ -59,20 +71,38 @@ COMMENTS = (
     ("x.rt", 3, "`hands out`", "/// One.\n///\n/// A refusal hands out the value.\nfn f() {}\n"),
     ("x.c", 2, "`is told`, `tells`", "int x;\n/* Tells the caller\n * of the end. */\n"),
 )
-CLEAN_COMMENTS = (("x.rt", '/// The same as `f`.\nfn behind() -> &\'static str { "told // stands" }\n'), ("x.antt", "-- a list\nstands : X\n"))
+CLEAN_COMMENTS = (
+    ("x.rt", '/// The same as `f`.\nfn behind() -> &\'static str { "told // stands" }\n'),
+    ("x.antt", "-- a list\nstands : X\n"),
+)
 # manual pages, each with the line of the finding and the rule against it
 ROFF = (
     (2, "`behind`", ".SH FILES\nThe group is \\fBbehind the gate\\fR.\n"),
-    (3, "begins with `Who` or `What`", '.TH X 1 "" "x" "y"\n.SH DESCRIPTION\n\\fBWho reads it\\fR loses updates.\n'),
-    (3, "`where` for `if` or `when`", ".TP\n\\fB\\-\\-bank B\\fR\nbytes; 20,971,520 where nothing is said.\n"),
+    (
+        3,
+        "begins with `Who` or `What`",
+        '.TH X 1 "" "x" "y"\n.SH DESCRIPTION\n\\fBWho reads it\\fR loses updates.\n',
+    ),
+    (
+        3,
+        "`where` for `if` or `when`",
+        ".TP\n\\fB\\-\\-bank B\\fR\nbytes; 20,971,520 where nothing is said.\n",
+    ),
     (1, "`is told`", "The caller is told \\fBSTG_E_WRITEFAULT\\fR.\n"),
     (1, "36 words", "\\fBa b c d\\fR is " + " ".join(["word"] * 34) + ".\n"),
 )
 CLEAN_ROFF = (
-    ".SH WHAT DUMP PRINTS\n.TP\n\\fBcheck \\-\\-where LIB\\fR\nShows the place.\n.nf\n# behind it, where nothing is said\n.fi\n",
+    (
+        ".SH WHAT DUMP PRINTS\n.TP\n\\fBcheck \\-\\-where LIB\\fR\nShows the place.\n.nf\n"
+        "# behind it, where nothing is said\n.fi\n"
+    ),
     "\\fB" + "a b " * 20 + "\\fR is one word here.\n",
 )
-CLEAN_PYTHON = ("# behind it, where nothing is said\nx = 1\n", 'NAMES = "' + " ".join(["word"] * 40) + '"\n', 'print("where is it?", f"{behind}")\n')
+CLEAN_PYTHON = (
+    "# behind it, where nothing is said\nx = 1\n",
+    'NAMES = "' + " ".join(["word"] * 40) + '"\n',
+    'print("where is it?", f"{behind}")\n',
+)
 
 
 class Style(Cases):
@@ -80,14 +110,20 @@ class Style(Cases):
         for path in [*style.pages(), *style.sources()]:
             found = [f"{number}: {rule}: {it}" for number, rule, it in style.found_in(path)]
             self.tell(f"the sentences of {path}", not found, "\n".join(found))
-        kinds = [len([it for it in style.sources() if it.endswith(end)]) for end in (".py", ".c", ".h", ".rt")]
+        kinds = [
+            len([it for it in style.sources() if it.endswith(end)])
+            for end in (".py", ".c", ".h", ".rt")
+        ]
         self.tell("programs of all languages", min(kinds) > 5, kinds)
 
     def test_comments(self):
         for path in style.commented():
             found = [f"{number}: {rule}: {it}" for number, rule, it in style.comment_findings(path)]
             self.tell(f"the comments of {path}", not found, "\n".join(found))
-        kinds = [len([it for it in style.commented() if it.endswith(end)]) for end in (".rt", ".antt", ".c", ".h")]
+        kinds = [
+            len([it for it in style.commented() if it.endswith(end)])
+            for end in (".rt", ".antt", ".c", ".h")
+        ]
         self.tell("files of each kind", min(kinds) > 5, kinds)
         for name, line, rule, text in COMMENTS:
             found = [(number, it) for number, it, _ in style.findings_in_comments(name, text)]
@@ -97,7 +133,9 @@ class Style(Cases):
 
     def test_manual_pages(self):
         pages = dict(style.manuals())
-        self.tell("there are some", len(pages) >= 6 and min(map(len, pages.values())) > 20, [*pages])
+        self.tell(
+            "there are some", len(pages) >= 6 and min(map(len, pages.values())) > 20, [*pages]
+        )
         for path, page in pages.items():
             found = [f"{number}: {rule}: {it}" for number, rule, it in style.manual_findings(page)]
             self.tell(f"the sentences of {path}", not found, "\n".join(found))
@@ -120,7 +158,9 @@ class Style(Cases):
 
     def test_clean_texts(self):
         for text in CLEAN_PYTHON:
-            found = [it for _, _, some in style.python_texts(text) for it in style.text_findings(some)]
+            found = [
+                it for _, _, some in style.python_texts(text) for it in style.text_findings(some)
+            ]
             self.tell(text[:50], not found, found)
 
     def test_each_rule_finds_its_sentences(self):

@@ -1,8 +1,8 @@
 """Arrays as values, their elements, bounds and locks, and memory that is refused for them."""
 import struct
 
-import wire
-from codes import (
+from tests.support import wire
+from tests.support.codes import (
     ARRAY_IS_LOCKED,
     BAD_INDEX,
     BAD_PARAM_COUNT,
@@ -16,11 +16,24 @@ from codes import (
     OVERFLOW,
     TYPE_MISMATCH,
 )
-from playing import Played
-from running import ARRAYS, CREATE, FULL, run, within
-from turns import FOUR, HALF, HI, NO_INDEX, creates, gets, i2, lists, of, puts, releases
+from tests.support.playing import Played
+from tests.support.running import ARRAYS, CREATE, FULL, run, within
+from tests.support.turns import (
+    FOUR,
+    HALF,
+    HI,
+    NO_INDEX,
+    creates,
+    gets,
+    i2,
+    lists,
+    of,
+    puts,
+    releases,
+)
 
-# of each property of the library: its DISPID, the type of its cells, and cells for the bounds (2, -1), (2, 5)
+# of each property of the library: its DISPID, the type of its cells, and cells for the bounds (2,
+# -1), (2, 5)
 ARRAY_ROWS = [
     (1, wire.I1, [-128, 127, 0, -1]),
     (2, wire.UI1, [0, 255, 1, 2]),
@@ -35,7 +48,16 @@ ARRAY_ROWS = [
     (11, wire.CY, [-25_000, 25_000, 0, 2**63 - 1]),
     (12, wire.BOOL, [0xFFFF, 0, 0, 0xFFFF]),
     (13, wire.BSTR, [None, b"", b"H\0i\0", b"A\0B"]),
-    (14, wire.VARIANT, [(wire.EMPTY,), (wire.DECIMAL, (28, 0x80, 2**96 - 1)), (wire.BSTR, b"k\0"), (wire.ERROR, 0x8002_0004)]),
+    (
+        14,
+        wire.VARIANT,
+        [
+            (wire.EMPTY,),
+            (wire.DECIMAL, (28, 0x80, 2**96 - 1)),
+            (wire.BSTR, b"k\0"),
+            (wire.ERROR, 0x8002_0004),
+        ],
+    ),
 ]
 ANY, COUNT = 15, 16
 HOLDERS, BYTES = 64, 2
@@ -44,18 +66,33 @@ GRID, ANY_VALUE, COUNT_ID, CLEAR, VERSION_ID = 8, 7, 1, 10, 6
 SIX = wire.array(wire.I2, [(2, -1), (3, 5)], [1, 2, 3, 4, 5, 6])
 
 
-def array_call(opcode, dispid, rest=b"", code=0, index=NO_INDEX, fields=b"", named=(), values=(), number=1, flags=0):
+def array_call(
+    opcode,
+    dispid,
+    rest=b"",
+    code=0,
+    index=NO_INDEX,
+    fields=b"",
+    named=(),
+    values=(),
+    number=1,
+    flags=0,
+):
     request = wire.oaut.ask_call(opcode, number, dispid, flags, named, values) + rest
     return (lambda tag: wire.line(tag, request), lambda tag: wire.reply(tag, code, index, fields))
 
 
 def element(dispid, indices, value=None, code=0, **how):
     fields = b"" if value is None else wire.field(value)
-    return array_call(wire.oaut.GETELEM, dispid, wire.oaut.indices_field(indices), code, fields=fields, **how)
+    return array_call(
+        wire.oaut.GETELEM, dispid, wire.oaut.indices_field(indices), code, fields=fields, **how
+    )
 
 
 def puts_element(dispid, indices, value, code=0, **how):
-    return array_call(wire.oaut.PUTELEM, dispid, wire.oaut.indices_field(indices) + wire.field(value), code, **how)
+    return array_call(
+        wire.oaut.PUTELEM, dispid, wire.oaut.indices_field(indices) + wire.field(value), code, **how
+    )
 
 
 def redim(dispid, count, lower, code=0, **how):
@@ -63,7 +100,9 @@ def redim(dispid, count, lower, code=0, **how):
 
 
 def locks(dispid, count, code=0, opcode=wire.oaut.LOCK, **how):
-    return array_call(opcode, dispid, b"", code, fields=b"" if code else struct.pack("<II", count, 0), **how)
+    return array_call(
+        opcode, dispid, b"", code, fields=b"" if code else struct.pack("<II", count, 0), **how
+    )
 
 
 def unlocks(dispid, count, code=0, **how):
@@ -97,8 +136,12 @@ class Arrays(Played):
             )
 
     def test_arrays_at_their_limits(self):
-        read_null = wire.array(wire.VARIANT, [(3, 0)], [(wire.NULL,), (wire.DECIMAL, (0, 0, 1)), None])
-        read_empty = wire.array(wire.VARIANT, [(3, 0)], [(wire.NULL,), (wire.DECIMAL, (0, 0, 1)), (wire.EMPTY,)])
+        read_null = wire.array(
+            wire.VARIANT, [(3, 0)], [(wire.NULL,), (wire.DECIMAL, (0, 0, 1)), None]
+        )
+        read_empty = wire.array(
+            wire.VARIANT, [(3, 0)], [(wire.NULL,), (wire.DECIMAL, (0, 0, 1)), (wire.EMPTY,)]
+        )
         sixteen = wire.array(wire.UI1, [(1, -(2**31))] * 15 + [(2, 2**31 - 1)], [8, 9])
         largest = wire.array(wire.UI1, [(256, 0), (256, 0)], bytes(65_536))
         no_cells = wire.array(wire.I2, [(65_536, 0), (65_536, 0), (0, 0)], [])
@@ -141,25 +184,52 @@ class Arrays(Played):
                     good + b"\0",
                 )
             ]
-            + [puts(ANY, wire.array(vt, [(1, 0)], [1]), BAD_VAR_TYPE, 0) for vt in (wire.EMPTY, wire.NULL, wire.ERROR, wire.DECIMAL, 5, 0x4003, 0x1003)]
+            + [
+                puts(ANY, wire.array(vt, [(1, 0)], [1]), BAD_VAR_TYPE, 0)
+                for vt in (wire.EMPTY, wire.NULL, wire.ERROR, wire.DECIMAL, 5, 0x4003, 0x1003)
+            ]
             + [gets(ANY, good)],
         )
 
     def test_memory_is_refused_in_a_session(self):
         """The request is answered, and nothing is changed."""
-        full_array, no_array = wire.array(wire.UI1, [(65_536, 0)], [7] * 65_536), wire.zero_array(wire.UI1)
+        full_array, no_array = wire.array(wire.UI1, [(65_536, 0)], [7] * 65_536), wire.zero_array(
+            wire.UI1
+        )
         asked = [CREATE + b"\n"] * HOLDERS
         asked += [wire.put(number, number, BYTES, full_array) for number in range(1, HOLDERS + 1)]
-        asked += [wire.put(1, 1, BYTES, no_array)] + [wire.get(number, number, BYTES) for number in range(2, HOLDERS + 1)]
-        status, out, err = run(["play", "lib.idl", "--hex"], b"".join(asked), files={"lib.idl": ARRAYS}, before=within(48_000_000))
+        asked += [wire.put(1, 1, BYTES, no_array)] + [
+            wire.get(number, number, BYTES) for number in range(2, HOLDERS + 1)
+        ]
+        status, out, err = run(
+            ["play", "lib.idl", "--hex"],
+            b"".join(asked),
+            files={"lib.idl": ARRAYS},
+            before=within(48_000_000),
+        )
         answers = (out or b"").splitlines(keepends=True)
         put = answers[HOLDERS : 2 * HOLDERS]
         kept = [answer == wire.reply(number) for number, answer in enumerate(put, 1)]
-        codes = all(answer == wire.reply(number, 0 if it else E_OUTOFMEMORY) for (number, answer), it in zip(enumerate(put, 1), kept))
-        got = [wire.reply(1)] + [wire.reply(number, fields=wire.field(full_array if it else no_array)) for number, it in enumerate(kept[1:], 2)]
+        codes = all(
+            answer == wire.reply(number, 0 if it else E_OUTOFMEMORY)
+            for (number, answer), it in zip(enumerate(put, 1), kept)
+        )
+        got = [wire.reply(1)] + [
+            wire.reply(number, fields=wire.field(full_array if it else no_array))
+            for number, it in enumerate(kept[1:], 2)
+        ]
         self.tell(
             "memory is refused in a session",
-            (status, err, len(kept), True in kept, False in kept, codes, answers[2 * HOLDERS :] == got) == (0, b"", HOLDERS, True, True, True, True),
+            (
+                status,
+                err,
+                len(kept),
+                True in kept,
+                False in kept,
+                codes,
+                answers[2 * HOLDERS :] == got,
+            )
+            == (0, b"", HOLDERS, True, True, True, True),
             (status, err, kept, codes),
         )
 
@@ -271,5 +341,10 @@ class Elements(Played):
             FULL,
             [puts(GRID, SIX)]
             + [locks(GRID, count) for count in range(1, 65_536)]
-            + [locks(GRID, 0, E_UNEXPECTED), unlocks(GRID, 65_534), locks(GRID, 65_535), locks(GRID, 0, E_UNEXPECTED)],
+            + [
+                locks(GRID, 0, E_UNEXPECTED),
+                unlocks(GRID, 65_534),
+                locks(GRID, 65_535),
+                locks(GRID, 0, E_UNEXPECTED),
+            ],
         )

@@ -1,18 +1,17 @@
-"""Random bytes, some seconds of each kind (tests/support/fuzz.py), and that the fuzzer finds what is wrong.
+"""Random bytes, some seconds of each kind (tests/support/fuzz.py), and that the fuzzer finds what
+is wrong.
 
-OAUT_FUZZ says how many seconds each kind has (8 where nothing is said), and OAUT_SEED from which seed.
+OAUT_FUZZ says how many seconds each kind has (8 where nothing is said), and OAUT_SEED from which
+seed.
 """
 import os
 import tempfile
 from unittest import mock
 
-import fuzz
-import fuzzed
-import model
-import store
-from model import LIBRARY
-from preloaded import fast_folder
-from running import Cases, fill, goes_on, rows_of
+from tests.support import fuzz, fuzzed, model, store
+from tests.support.model import LIBRARY
+from tests.support.preloaded import fast_folder
+from tests.support.running import Cases, fill, goes_on, rows_of
 
 SECONDS, SEED = float(os.environ.get("OAUT_FUZZ") or 8), int(os.environ.get("OAUT_SEED") or 1)
 LEAST = 101  # of each kind, however slow the machine is
@@ -39,19 +38,36 @@ WRONG_RULES = [
         "a text's units are not compared with its bytes",
         fuzz.records,
         "asked.text",
-        lambda at: (lambda most, count, units: None if count == store.NO_TEXT else at.take(2 * units)[:count])(*(at.number("I") for _ in range(3))),
+        lambda at: (
+            lambda most, count, units: None
+            if count == store.NO_TEXT
+            else at.take(2 * units)[:count]
+        )(*(at.number("I") for _ in range(3))),
     ),
     (
         "a DECIMAL has any scale",
         fuzz.records,
         "asked.decimal",
-        lambda at: (at.align(8), (lambda it: (it[1], it[2], it[3] << 64 | it[4]))(at.numbers("HBBIQ")))[1],
+        lambda at: (
+            at.align(8),
+            (lambda it: (it[1], it[2], it[3] << 64 | it[4]))(at.numbers("HBBIQ")),
+        )[1],
     ),
     ("bytes may be left over", fuzz.records, "asked.Bytes.ends", lambda at: None),
     ("DISPIDs are looked up with their cases", fuzz.records, "model.fold", lambda name: name),
     ("a lock is anybody's", fuzz.frames, "sharing.Owned.lock", model.Model.lock),
-    ("a client that has gone leaves its locks", fuzz.frames, "sharing.Owned.give_back", lambda model, client: None),
-    ("a key is in any order", fuzz.stores, "store.place_order", lambda it: (it[0], it[1], [rank for rank in map(store.scalar_image, it[2])])),
+    (
+        "a client that has gone leaves its locks",
+        fuzz.frames,
+        "sharing.Owned.give_back",
+        lambda model, client: None,
+    ),
+    (
+        "a key is in any order",
+        fuzz.stores,
+        "store.place_order",
+        lambda it: (it[0], it[1], [rank for rank in map(store.scalar_image, it[2])]),
+    ),
 ]
 
 
@@ -59,7 +75,11 @@ class Fuzzed(Cases):
     def fuzzed(self, part):
         found = found_by(part)
         print(f"fuzz: {found}", flush=True)
-        self.tell(f"{found.what}", not found.differ and found.tried >= LEAST, "\n  ".join(found.differ) or f"only {found.tried} were tried")
+        self.tell(
+            f"{found.what}",
+            not found.differ and found.tried >= LEAST,
+            "\n  ".join(found.differ) or f"only {found.tried} were tried",
+        )
 
     def test_records(self):
         self.fuzzed(fuzz.records)
@@ -83,6 +103,7 @@ class Fuzzed(Cases):
 
     def test_that_a_wrong_rule_is_found(self):
         for name, part, rule, wrong in WRONG_RULES:
-            with mock.patch(rule, wrong):
-                found = found_by(part, seconds=60 * SECONDS, most=1)  # (it ends with the first difference)
+            with mock.patch(f"tests.support.{rule}", wrong):
+                # (it ends with the first difference)
+                found = found_by(part, seconds=60 * SECONDS, most=1)
             self.tell(f"{name}: found in {found.tried} {found.what}", found.differ, f"{found}")

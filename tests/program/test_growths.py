@@ -1,4 +1,6 @@
-"""Each growth of memory refused in turn (tests/support/refused_growths.py), and cases of ample memory, by which a program falls that always wants for it: one that does is made, and falls by each."""
+"""Each growth of memory refused in turn (tests/support/refused_growths.py), and cases of ample
+memory, by which a program falls that always wants for it: one that does is made, and falls by
+each."""
 import os
 import struct
 import sys
@@ -6,22 +8,22 @@ import tempfile
 import unittest
 import unittest.mock
 
-from wire import oaut
-import refused_growths
-import store
-import worked
-from model import LIBRARY, first_library
-from preloaded import COMPILER, Preloaded, fast_folder
-from running import FULL_TEXT, Cases, fault, fill, run_in
+from tests.support import refused_growths, store, worked
+from tests.support.model import LIBRARY, first_library
+from tests.support.preloaded import COMPILER, Preloaded, fast_folder
+from tests.support.running import FULL_TEXT, Cases, fault, fill, run_in
+from tests.support.wire import oaut
 
-
-# a program that wants for memory whatever it is asked: it answers each request so, and ends so where there is none
+# a program that wants for memory whatever it is asked: it answers each request so, and ends so
+# where there is none
 STARVING = f"""#!{sys.executable} -S
+import site
 import sys
-sys.path.append({os.path.dirname(os.path.dirname(oaut.__file__))!r})
+site.addsitedir({os.path.dirname(os.path.dirname(oaut.__file__))!r})
 import oaut
 framing = oaut.FRAMINGS["lines" if "--hex" in sys.argv else "raw"]
-bodies = list(iter(lambda: framing.read(sys.stdin.buffer), None)) if sys.argv[1] in ("play", "serve") else []
+bodies = list(iter(lambda: framing.read(sys.stdin.buffer), None)) if sys.argv[1] in ("play", \
+"serve") else []
 starved = bytes.fromhex("0e000780 ffffffff 00000000")
 sys.stdout.buffer.write(framing.pack([body[:4] + starved for body in bodies]))
 if not bodies:
@@ -31,12 +33,24 @@ sys.exit(0 if bodies else 5)
 
 
 def commands():
-    """Each command with ample memory: its name, whether it did what it was asked, and what it said."""
+    """Each command with ample memory: its name, whether it did what it was asked, and what it
+    said."""
     with tempfile.TemporaryDirectory(dir=fast_folder()) as room:
-        fill(room, {"lib.idl": FULL_TEXT, "wrong.idl": b"library", "old.store": store.formatted_before(FULL_TEXT), "it.store": store.formatted(FULL_TEXT)})
+        fill(
+            room,
+            {
+                "lib.idl": FULL_TEXT,
+                "wrong.idl": b"library",
+                "old.store": store.formatted_before(FULL_TEXT),
+                "it.store": store.formatted(FULL_TEXT),
+            },
+        )
         for words, answer in (
             (["check", "lib.idl"], (0, FULL_TEXT, b"")),
-            (["check", "--where", "wrong.idl"], (2, b"", fault("syntax at byte 0") + b"wrong.idl:1:1: library\n               ^\n")),
+            (
+                ["check", "--where", "wrong.idl"],
+                (2, b"", fault("syntax at byte 0") + b"wrong.idl:1:1: library\n               ^\n"),
+            ),
             (["format", "it.store", "lib.idl"], (0, b"formatted\n", b"")),
             (["dump", "it.store"], (0, b"next 1\n", b"")),
             (["dump", "it.store", "--library"], (0, FULL_TEXT, b"")),
@@ -72,12 +86,16 @@ def opcodes():
         with tempfile.TemporaryDirectory(dir=fast_folder()) as room:
             fill(room, {"lib.idl": LIBRARY, "it.store": store.formatted(first_library().text())})
             for words in (["play"], ["serve", "it.store"]):
-                status, out, err = run_in(room, [*words, "lib.idl", *framing.words], framing.pack(bodies))
+                status, out, err = run_in(
+                    room, [*words, "lib.idl", *framing.words], framing.pack(bodies)
+                )
                 replies = refused_growths.replies_of(out, framing)
                 if (status, err, len(replies)) != (0, b"", len(bodies)):
                     yield f"{words[0]}, {name}", False, (status, err, len(replies))
                 for request, body, reply in zip(REQUESTS, bodies, replies):
-                    yield f"{words[0]}, {name}: {request}", reply[:8] == body[:4] + bytes(4), reply.hex()
+                    yield f"{words[0]}, {name}: {request}", reply[:8] == body[:4] + bytes(
+                        4
+                    ), reply.hex()
 
 
 class Ample(Cases):
@@ -94,9 +112,11 @@ class Ample(Cases):
             path = f"{room}/starving"
             fill(room, {"starving": STARVING.encode()})
             os.chmod(path, 0o700)
-            with unittest.mock.patch("running.PROGRAM", path):
+            with unittest.mock.patch("tests.support.running.PROGRAM", path):
                 found = [*commands(), *opcodes()]
-        self.tell("each of these cases is tried on it", len(found) == 8 + 4 * len(REQUESTS), len(found))
+        self.tell(
+            "each of these cases is tried on it", len(found) == 8 + 4 * len(REQUESTS), len(found)
+        )
         for name, well, said in found:
             self.tell(f"{name} falls where memory is always wanting", not well, said)
 

@@ -1,11 +1,14 @@
 """Kills `oaut serve` at random moments, and looks at what is there behind it.
 
-OAUT_KILLS says how often (300 times where nothing is said), OAUT_SEED from which seed: `tools/cases.py kills --kills N --seed S` sets them. Each time a server is started on
-one store, with groups of 1, 3, 64 or 1,024. It reads back what the store should hold, takes puts as fast as it can, small ones and long texts, so that checkpoints fall among
-them, and gets the signal 9. Then the store is read by `oaut dump` and by tests/support/store.py. It has to hold what a first part of the puts has left, in which every acknowledged one
-is, and which ends where a group ends.
+OAUT_KILLS says how often (300 times where nothing is said), OAUT_SEED from which seed:
+`tools/cases.py kills --kills N --seed S` sets them. Each time a server is started on one store,
+with groups of 1, 3, 64 or 1,024. It reads back what the store should hold, takes puts as fast as it
+can, small ones and long texts, so that checkpoints fall among them, and gets the signal 9. Then the
+store is read by `oaut dump` and by tests/support/store.py. It has to hold what a first part of the
+puts has left, in which every acknowledged one is, and which ends where a group ends.
 
-A kill leaves the system's cache as it is: what a loss of power may leave is shown by the proofs and by the crates' tests alone.
+A kill leaves the system's cache as it is: what a loss of power may leave is shown by the proofs and
+by the crates' tests alone.
 """
 import os
 import random
@@ -17,11 +20,9 @@ import time
 import unittest
 import uuid
 
-import calls
-import store
-import wire
 from oaut import PROPERTYGET, PROPERTYPUT, ask_create, ask_invoke
-from running import PROGRAM
+from tests.support import calls, store, wire
+from tests.support.running import PROGRAM
 
 TIMES = int(os.environ.get("OAUT_KILLS") or 300)
 SEED = int(os.environ.get("OAUT_SEED") or int.from_bytes(os.urandom(4), "little"))
@@ -31,7 +32,8 @@ EARLY = 524_288  # a group ends behind the request that brings its events to so 
 COUNT, NAME = 1, 2
 LIBRARY = b"""[uuid(11223344-5566-7788-99aa-bbccddeeff01), version(1.0)]
 library Demo {
-[uuid(11223344-5566-7788-99aa-bbccddeeff02)] dispinterface DItem { properties: [id(1)] long Count; [id(2)] BSTR Name; methods: }
+[uuid(11223344-5566-7788-99aa-bbccddeeff02)] dispinterface DItem { properties: [id(1)] long Count; \
+[id(2)] BSTR Name; methods: }
 [uuid(11223344-5566-7788-99aa-bbccddeeff03)] coclass Item { [default] dispinterface DItem; }
 }
 """
@@ -47,10 +49,20 @@ class Put:
         draw = random.Random(number) if long else None
         if draw and draw.random() < 0.5:
             text = b"%d:" % number + b"x" * draw.randrange(200_000)
-            self.dispid, self.value, field = NAME, (wire.BSTR, struct.pack("<I", len(text)) + text), wire.scalar(wire.BSTR, text)
+            self.dispid, self.value, field = (
+                NAME,
+                (wire.BSTR, struct.pack("<I", len(text)) + text),
+                wire.scalar(wire.BSTR, text),
+            )
         else:
-            self.dispid, self.value, field = COUNT, (wire.I4, struct.pack("<i", number)), wire.scalar(wire.I4, number)
-        self.body = struct.pack("<I", number) + ask_invoke(self.object, self.dispid, PROPERTYPUT, [-3], [field])
+            self.dispid, self.value, field = (
+                COUNT,
+                (wire.I4, struct.pack("<i", number)),
+                wire.scalar(wire.I4, number),
+            )
+        self.body = struct.pack("<I", number) + ask_invoke(
+            self.object, self.dispid, PROPERTYPUT, [-3], [field]
+        )
         self.event = 1 + 4 + 16 + 4 + 2 + 2 + len(self.value[1])
 
 
@@ -63,8 +75,8 @@ def get(number, object, dispid):
 
 
 class Session:
-    """A server that is started on the store, fed without an end and killed. `first` is the number of its first put, `values` what the store holds, and `puts` become those that were
-    asked."""
+    """A server that is started on the store, fed without an end and killed. `first` is the number
+    of its first put, `values` what the store holds, and `puts` become those that were asked."""
 
     def __init__(self, program, room, group, first, values, long):
         self.process = subprocess.Popen(
@@ -77,9 +89,16 @@ class Session:
         )
         self.first, self.long, self.puts, self.over = first, long, [], False
         self.heard = bytearray()
-        self.reads = [(object, dispid) for object in range(1, OBJECTS + 1) for dispid in (COUNT, NAME)]
-        self.wanted = b"".join(record(bytes.fromhex(wire.reply(0, fields=wire.field(spelled(values[it]))).decode())) for it in self.reads)
-        self.feeding, self.hearing = (threading.Thread(target=it, daemon=True) for it in (self.feed, self.hear))
+        self.reads = [
+            (object, dispid) for object in range(1, OBJECTS + 1) for dispid in (COUNT, NAME)
+        ]
+        self.wanted = b"".join(
+            record(bytes.fromhex(wire.reply(0, fields=wire.field(spelled(values[it]))).decode()))
+            for it in self.reads
+        )
+        self.feeding, self.hearing = (
+            threading.Thread(target=it, daemon=True) for it in (self.feed, self.hear)
+        )
         self.feeding.start()
         self.hearing.start()
 
@@ -87,7 +106,10 @@ class Session:
         try:
             self.process.stdin.write(b"".join(get(0, *it) for it in self.reads))
             while not self.over:
-                some = [Put(self.first + len(self.puts) + it, self.long) for it in range(4 if self.long else 64)]
+                some = [
+                    Put(self.first + len(self.puts) + it, self.long)
+                    for it in range(4 if self.long else 64)
+                ]
                 self.puts += some
                 self.process.stdin.write(b"".join(record(it.body) for it in some))
         except (BrokenPipeError, ValueError):
@@ -116,8 +138,13 @@ class Session:
         done = told[len(self.wanted) :]
         count = len(done) // 20
         for it in range(count):
-            if done[20 * it : 20 * it + 20] != record(struct.pack("<IIII", self.first + it, 0, 0xFFFF_FFFF, 0)):
-                raise Wrong(f"the reply to the put {self.first + it} is {done[20 * it : 20 * it + 20].hex()}")
+            if done[20 * it : 20 * it + 20] != record(
+                struct.pack("<IIII", self.first + it, 0, 0xFFFF_FFFF, 0)
+            ):
+                raise Wrong(
+                    f"the reply to the put {self.first + it} is "
+                    f"{done[20 * it : 20 * it + 20].hex()}"
+                )
         return count
 
 
@@ -145,12 +172,23 @@ def ends_of_groups(group, reads, puts):
 
 
 def held(room):
-    """The values of a store's cells, by the reader that shares no code with the program, and its dump, by both."""
+    """The values of a store's cells, by the reader that shares no code with the program, and its
+    dump, by both."""
     found = store.read(calls.held(room))
     if found.next != OBJECTS + 1 or sorted(found.objects) != list(range(1, OBJECTS + 1)):
         raise Wrong("the objects are others")
-    values = {(object, dispid): zero for object in found.objects for dispid, zero in ((COUNT, LONG_ZERO), (NAME, NO_TEXT))}
-    values.update({(object, where[1]): value for object, (_, cells) in found.objects.items() for where, value in cells.items()})
+    values = {
+        (object, dispid): zero
+        for object in found.objects
+        for dispid, zero in ((COUNT, LONG_ZERO), (NAME, NO_TEXT))
+    }
+    values.update(
+        {
+            (object, where[1]): value
+            for object, (_, cells) in found.objects.items()
+            for where, value in cells.items()
+        }
+    )
     return found, values, "".join(store.lines(found))
 
 
@@ -166,12 +204,17 @@ class Kills(unittest.TestCase):
         with open(f"{self.room}/lib.idl", "wb") as file:
             file.write(LIBRARY)
         self.call(["format", "it.store", "lib.idl"])
-        made = b"".join(record(struct.pack("<I", it) + ask_create(uuid.UUID(bytes_le=CLASS))) for it in range(OBJECTS))
+        made = b"".join(
+            record(struct.pack("<I", it) + ask_create(uuid.UUID(bytes_le=CLASS)))
+            for it in range(OBJECTS)
+        )
         self.call(["serve", "it.store", "lib.idl"], input=made)
         self.found, self.values, _ = held(self.room)
 
     def call(self, words, **how):
-        return subprocess.run([PROGRAM, *words], cwd=self.room, check=True, stdout=subprocess.PIPE, **how).stdout
+        return subprocess.run(
+            [PROGRAM, *words], cwd=self.room, check=True, stdout=subprocess.PIPE, **how
+        ).stdout
 
     def test_kills(self):
         for turn in range(TIMES):
@@ -187,7 +230,9 @@ class Kills(unittest.TestCase):
             if wrong:
                 return
         print(
-            f"{TIMES} kills, groups of {', '.join(map(str, GROUPS))}: {self.acknowledged} acknowledged puts were all there, {self.behind} more with them, in whole groups; {self.switched} sessions ended in the other bank"
+            f"{TIMES} kills, groups of {', '.join(map(str, GROUPS))}: {self.acknowledged} "
+            f"acknowledged puts were all there, {self.behind} more with them, in whole groups; "
+            f"{self.switched} sessions ended in the other bank"
         )
 
     def kill(self, group, long):
@@ -195,14 +240,25 @@ class Kills(unittest.TestCase):
         session = Session(PROGRAM, self.room, group, self.number, self.values, long)
         until = self.draw.random() * (200 if long else 100 + 20 * group)
         late = time.monotonic() + 20
-        while len(session.heard) < len(session.wanted) + 20 * until and time.monotonic() < late and self.draw.random() > 0.002:
+        while (
+            len(session.heard) < len(session.wanted) + 20 * until
+            and time.monotonic() < late
+            and self.draw.random() > 0.002
+        ):
             time.sleep(0.0002)
         time.sleep(self.draw.random() * 0.003)
         count = session.kill()
         before = self.found.chosen
         self.found, now, dump = held(self.room)
         puts = session.puts
-        there = next((it for it in range(len(puts), 0, -1) if now[puts[it - 1].object, puts[it - 1].dispid] == puts[it - 1].value), 0)
+        there = next(
+            (
+                it
+                for it in range(len(puts), 0, -1)
+                if now[puts[it - 1].object, puts[it - 1].dispid] == puts[it - 1].value
+            ),
+            0,
+        )
         for put in puts[:there]:
             self.values[put.object, put.dispid] = put.value
         if self.values != now:
@@ -213,5 +269,9 @@ class Kills(unittest.TestCase):
             raise Wrong(f"{there} puts are there, and no group ends behind them")
         if self.call(["dump", "it.store"]).decode() != dump:
             raise Wrong("`oaut dump` prints something else")
-        self.acknowledged, self.behind, self.switched = self.acknowledged + count, self.behind + there - count, self.switched + (self.found.chosen != before)
+        self.acknowledged, self.behind, self.switched = (
+            self.acknowledged + count,
+            self.behind + there - count,
+            self.switched + (self.found.chosen != before),
+        )
         self.number += len(puts)

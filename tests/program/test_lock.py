@@ -1,17 +1,17 @@
-"""One process has a store: what a second one is told, by which names it may come, and when the lock ends."""
+"""One process has a store: what a second one is told, by which names it may come, and when the lock
+ends."""
 import fcntl
 import os
 import re
 import tempfile
 import unittest
 
-import store
-import wire
-from calls import STRACE, Calls, text_held
-from codes import WRITE_FAULT
-from preloaded import COMPILER, Preloaded
-from running import SMALL, Cases, Talk, cannot, fault, fill, run_in
-from stores import NEW, OLD, ONE, TWO, get, got, put, table, words
+from tests.support import store, wire
+from tests.support.calls import STRACE, Calls, text_held
+from tests.support.codes import WRITE_FAULT
+from tests.support.preloaded import COMPILER, Preloaded
+from tests.support.running import SMALL, Cases, Talk, cannot, fault, fill, run_in
+from tests.support.stores import NEW, OLD, ONE, TWO, get, got, put, table, words
 
 SERVE = ("serve", "it.store")
 
@@ -40,35 +40,71 @@ class Lock(Cases):
             self.tell("lock: a second server is refused", second == [in_use()] * 2, second)
             first.process.stdin.close()
             self.tell(
-                "lock: what the first one has acknowledged is there", (told, first.status(), text_held(room)) == ([wire.reply(1)] * 52, 0, table(59)), told
+                "lock: what the first one has acknowledged is there",
+                (told, first.status(), text_held(room)) == ([wire.reply(1)] * 52, 0, table(59)),
+                told,
             )
         third = run_in(room, words("--hex"), given=get(1))
-        self.tell("lock: and once it has ended another one opens the store", third == (0, got(1, 59), b""), third)
+        self.tell(
+            "lock: and once it has ended another one opens the store",
+            third == (0, got(1, 59), b""),
+            third,
+        )
 
     def test_the_other_commands(self):
         room = self.room()
         with Talk(SMALL, room=room, command=SERVE) as first:
             first.send(put(1, 8))
             first.line()
-            for command in (["format", "it.store", "lib.idl"], ["dump", "it.store"], ["dump", "it.store", "--library"], ["upgrade", "it.store"]):
+            for command in (
+                ["format", "it.store", "lib.idl"],
+                ["dump", "it.store"],
+                ["dump", "it.store", "--library"],
+                ["upgrade", "it.store"],
+            ):
                 got_ = run_in(room, command)
-                self.tell(f"lock: {' '.join(command)} beside a server", (got_, text_held(room)) == (in_use(), table(8)), got_)
+                self.tell(
+                    f"lock: {' '.join(command)} beside a server",
+                    (got_, text_held(room)) == (in_use(), table(8)),
+                    got_,
+                )
             first.send(put(2, 9))
-            self.tell("lock: the server goes on", (first.line(), text_held(room)) == (wire.reply(2), table(9)))
+            self.tell(
+                "lock: the server goes on",
+                (first.line(), text_held(room)) == (wire.reply(2), table(9)),
+            )
         # LIB is refused first, and the store's lock goes before what the store holds
         room = self.room(OLD)
         with open(f"{room}/it.store", "rb") as file:
             for how in (fcntl.LOCK_SH, fcntl.LOCK_EX):
                 fcntl.flock(file, how)
-                for command in (words(), ["format", "it.store", "lib.idl"], ["dump", "it.store"], ["upgrade", "it.store"]):
+                for command in (
+                    words(),
+                    ["format", "it.store", "lib.idl"],
+                    ["dump", "it.store"],
+                    ["upgrade", "it.store"],
+                ):
                     got_ = run_in(room, command)
-                    self.tell(f"lock: {' '.join(command)} beside another program with a lock", got_ == in_use(), got_)
+                    self.tell(
+                        f"lock: {' '.join(command)} beside another program with a lock",
+                        got_ == in_use(),
+                        got_,
+                    )
             got_ = run_in(room, ["serve", "it.store", "none.idl"])
-            self.tell("lock: a library that is not there goes before a store that is in use", got_ == (1, b"", cannot("read", "none.idl", "ENOENT")), got_)
+            self.tell(
+                "lock: a library that is not there goes before a store that is in use",
+                got_ == (1, b"", cannot("read", "none.idl", "ENOENT")),
+                got_,
+            )
             fcntl.flock(file, fcntl.LOCK_UN)
             self.tell(
                 "lock: the store is as it was",
-                (text_held(room), os.stat(f"{room}/it.store").st_size, run_in(room, ["dump", "it.store"])) == (ONE, len(OLD), (0, ONE.encode(), b"")),
+                (
+                    text_held(room),
+                    os.stat(f"{room}/it.store").st_size,
+                    run_in(room, ["dump", "it.store"]),
+                )
+                == (ONE, len(OLD), (0, ONE.encode(), b"")),
             )
         with open(f"{room}/lib.idl", "rb") as file:
             fcntl.flock(file, fcntl.LOCK_EX)
@@ -85,7 +121,9 @@ class Lock(Cases):
                 first.process.wait()
                 second = run_in(room, words("--hex"), given=get(1))
                 self.tell(
-                    "lock: the next server opens the store at once behind a kill", (told, second) == (wire.reply(1), (0, got(1, value), b"")), (told, second)
+                    "lock: the next server opens the store at once behind a kill",
+                    (told, second) == (wire.reply(1), (0, got(1, value), b"")),
+                    (told, second),
                 )
 
     def test_other_names_of_a_file(self):
@@ -126,23 +164,39 @@ class Changed(Cases):
             ):
                 fill(preloaded.room, {"lib.idl": SMALL, "it.store": TWO})
                 got_ = preloaded.run(command, cut=length)
-                self.tell(f"lock: {command[0]}: of {length} bytes by then", (got_[:3], os.path.getsize(path)) == ((3, b"", fault(text)), length), got_[:3])
+                self.tell(
+                    f"lock: {command[0]}: of {length} bytes by then",
+                    (got_[:3], os.path.getsize(path)) == ((3, b"", fault(text)), length),
+                    got_[:3],
+                )
 
 
-@unittest.skipIf(STRACE is None, "strace is not there: the calls of the system are not looked at, and no call is made to fail")
+@unittest.skipIf(
+    STRACE is None,
+    "strace is not there: the calls of the system are not looked at, and no call is made to fail",
+)
 class LockCalls(Cases):
     def test_the_lock_comes_first_and_on_the_descriptor_that_is_written_by(self):
-        for command, disk in ((words("--hex"), TWO), (["format", "it.store", "lib.idl"], TWO), (["upgrade", "it.store"], OLD + bytes(41_943_040))):
+        for command, disk in (
+            (words("--hex"), TWO),
+            (["format", "it.store", "lib.idl"], TWO),
+            (["upgrade", "it.store"], OLD + bytes(41_943_040)),
+        ):
             with tempfile.TemporaryDirectory() as room:
                 fill(room, {"lib.idl": SMALL, "it.store": disk})
                 answer = Calls(room, command, given=put(1, 8)).answer
                 with open(f"{room}/calls") as file:
-                    made = re.findall(r"^\d+ +(\w+)\((\d+)<[^>]*/it\.store>", file.read(), re.MULTILINE)
+                    made = re.findall(
+                        r"^\d+ +(\w+)\((\d+)<[^>]*/it\.store>", file.read(), re.MULTILINE
+                    )
                 first = next(place for place, (name, _) in enumerate(made) if name == "pwrite64")
                 locks = [it for it in made[:first] if it[0] == "flock"]
                 self.tell(
                     f"lock: before the first write of {command[0]}, on its descriptor",
-                    answer[0] == 0 and locks and locks[-1][1] == made[first][1] and made[0][0] == "flock",
+                    answer[0] == 0
+                    and locks
+                    and locks[-1][1] == made[first][1]
+                    and made[0][0] == "flock",
                     made[:6],
                 )
 
@@ -150,11 +204,26 @@ class LockCalls(Cases):
         with tempfile.TemporaryDirectory() as room:
             fill(room, {"lib.idl": SMALL, "it.store": TWO})
             # (EWOULDBLOCK is EAGAIN)
-            for error, wanted in (("EAGAIN", in_use()), *((it, (1, b"", cannot("read", "it.store", it))) for it in ("ENOLCK", "EOPNOTSUPP", "ENOSYS"))):
-                for command in (words("--hex"), ["dump", "it.store"], ["format", "it.store", "lib.idl"], ["upgrade", "it.store"]):
+            for error, wanted in (
+                ("EAGAIN", in_use()),
+                *(
+                    (it, (1, b"", cannot("read", "it.store", it)))
+                    for it in ("ENOLCK", "EOPNOTSUPP", "ENOSYS")
+                ),
+            ):
+                for command in (
+                    words("--hex"),
+                    ["dump", "it.store"],
+                    ["format", "it.store", "lib.idl"],
+                    ["upgrade", "it.store"],
+                ):
                     calls = Calls(room, command, f"flock:error={error}:when=1")
                     others = [it for it in calls.does() if it != ("lock",)]
-                    self.tell(f"lock: {error}, {command[0]}", (calls.answer, others, text_held(room)) == (wanted, [], ONE), (calls.answer, others))
+                    self.tell(
+                        f"lock: {error}, {command[0]}",
+                        (calls.answer, others, text_held(room)) == (wanted, [], ONE),
+                        (calls.answer, others),
+                    )
 
     def test_the_lock_is_interrupted(self):
         for command, wanted in (
@@ -174,12 +243,25 @@ class LockCalls(Cases):
     def test_a_device_that_has_failed(self):
         with tempfile.TemporaryDirectory() as room:
             fill(room, {"lib.idl": SMALL, "it.store": TWO})
-            under = (STRACE, "-f", "-o", "/dev/null", "-e", "trace=fdatasync", "-e", "inject=fdatasync:error=EIO:when=2+")
+            under = (
+                STRACE,
+                "-f",
+                "-o",
+                "/dev/null",
+                "-e",
+                "trace=fdatasync",
+                "-e",
+                "inject=fdatasync:error=EIO:when=2+",
+            )
             with Talk(SMALL, room=room, command=SERVE, under=under) as first:
                 first.send(put(1, 8))
                 told = first.line()
                 second = run_in(room, words("--hex"), given=get(1))
-                self.tell("lock: a server whose device has failed still has it", (told, second) == (wire.reply(1, WRITE_FAULT), in_use()), (told, second))
+                self.tell(
+                    "lock: a server whose device has failed still has it",
+                    (told, second) == (wire.reply(1, WRITE_FAULT), in_use()),
+                    (told, second),
+                )
                 first.process.stdin.close()
                 ended = first.status()
             third = run_in(room, words("--hex"), given=get(1))

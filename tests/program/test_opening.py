@@ -1,11 +1,21 @@
-"""What `serve` refuses, and in which order: words, libraries, stores, and tables that the library cannot have."""
+"""What `serve` refuses, and in which order: words, libraries, stores, and tables that the library
+cannot have."""
 import struct
 
-import store
-import wire
-from running import CREATE, FULL_TEXT, REQUESTS, SMALL, SMALL_TEXT, cannot, fault, rows_of, run
-from stores import BODIES, CLASS, CREATED_1, NEW, OLD, TWO, Served, changed, words
-from tables import guid_of
+from tests.support import store, wire
+from tests.support.running import (
+    CREATE,
+    FULL_TEXT,
+    REQUESTS,
+    SMALL,
+    SMALL_TEXT,
+    cannot,
+    fault,
+    rows_of,
+    run,
+)
+from tests.support.stores import BODIES, CLASS, CREATED_1, NEW, OLD, TWO, Served, changed, words
+from tests.support.tables import guid_of
 
 OF_TABLES = b"""[uuid(11223344-5566-7788-99aa-bbccddeeff01), version(0.0)]
 library L {
@@ -43,15 +53,40 @@ IMAGES = {
 class Opening(Served):
     def test_sizes_of_groups_that_are_refused(self):
         for refusal in ("0", "1025", "-1", "+1", "x", ""):
-            status, out, err = run(words("--group", refusal), files={"lib.idl": SMALL, "it.store": NEW})
-            self.tell(f"serve: a group of {refusal!r} is refused", (status, out, err.startswith(b"error: ")) == (2, b"", True), (status, out, err))
+            status, out, err = run(
+                words("--group", refusal), files={"lib.idl": SMALL, "it.store": NEW}
+            )
+            self.tell(
+                f"serve: a group of {refusal!r} is refused",
+                (status, out, err.startswith(b"error: ")) == (2, b"", True),
+                (status, out, err),
+            )
 
     def test_files_that_are_refused(self):
         self.case(
-            "serve: a library that is refused goes before a store that is not there", words(), 2, b"", fault("syntax at byte 0"), files={"lib.idl": b"library"}
+            "serve: a library that is refused goes before a store that is not there",
+            words(),
+            2,
+            b"",
+            fault("syntax at byte 0"),
+            files={"lib.idl": b"library"},
         )
-        self.case("serve: a library that is not there", words(), 1, b"", cannot("read", "lib.idl", "ENOENT"), files={"it.store": NEW})
-        self.case("serve: a store that is not there", words(), 1, b"", cannot("read", "it.store", "ENOENT"), files={"lib.idl": SMALL})
+        self.case(
+            "serve: a library that is not there",
+            words(),
+            1,
+            b"",
+            cannot("read", "lib.idl", "ENOENT"),
+            files={"it.store": NEW},
+        )
+        self.case(
+            "serve: a store that is not there",
+            words(),
+            1,
+            b"",
+            cannot("read", "it.store", "ENOENT"),
+            files={"lib.idl": SMALL},
+        )
         self.case(
             "serve: standard input cannot hold library and requests",
             ["serve", "it.store", "-"],
@@ -72,7 +107,11 @@ class Opening(Served):
             ("a first byte of 255", changed(TWO, 0, 255), "not a store"),
             ("a bank that was never written", changed(TWO, 4096, 1), "damaged at 16785408"),
             ("another library", full, "library differs"),
-            ("another library whose snapshot is damaged", changed(full, snapshot_of_full, 0, 0, 0, 0), "library differs"),
+            (
+                "another library whose snapshot is damaged",
+                changed(full, snapshot_of_full, 0, 0, 0, 0),
+                "library differs",
+            ),
             ("a byte of the library", changed(TWO, body, 0), "library differs"),
             ("a bank's first byte", changed(TWO, 8192, 0), "damaged at 8192"),
             ("a format 1 by its number alone", changed(TWO, 8200, 1), "damaged at 8192"),
@@ -86,7 +125,16 @@ class Opening(Served):
         ):
             self.serves(f"{name}: {text}", REQUESTS, 3, b"", fault(text), disk, disk, "--hex")
         elsewhere = store.add(bytearray(NEW), b"\1" + struct.pack("<I", 1) + bytes(16))
-        self.serves("an object of a coclass that the library does not have", REQUESTS, 3, b"", fault("damaged at 0"), elsewhere, elsewhere, "--hex")
+        self.serves(
+            "an object of a coclass that the library does not have",
+            REQUESTS,
+            3,
+            b"",
+            fault("damaged at 0"),
+            elsewhere,
+            elsewhere,
+            "--hex",
+        )
 
     def test_stores_of_format_1(self):
         # its head decides: the library, the snapshot and the groups behind it are not looked at
@@ -103,15 +151,37 @@ class Opening(Served):
             ("a file that lacks its last byte", OLD[:-1], "not a store"),
             ("a first byte of 0", changed(OLD, 0, 0), "not a store"),
         ):
-            self.serves(f"format 1, {name}: {text}", REQUESTS, 3, b"", fault(text), disk, disk, "--hex")
+            self.serves(
+                f"format 1, {name}: {text}", REQUESTS, 3, b"", fault(text), disk, disk, "--hex"
+            )
 
     def test_tables_that_the_library_can_have_or_not(self):
         for row in rows_of("tables.txt"):
             class_, face, dispid, key, value, fits = row.split("|")
-            place = guid_of(face) + struct.pack("<iH", int(dispid), len(key)) + b"".join(IMAGES[it] for it in key)
-            events = CREATED_1 + b"\1" + struct.pack("<I", 2) + guid_of(class_) + b"\3" + struct.pack("<I", 2) + place + IMAGES[value]
+            place = (
+                guid_of(face)
+                + struct.pack("<iH", int(dispid), len(key))
+                + b"".join(IMAGES[it] for it in key)
+            )
+            events = (
+                CREATED_1
+                + b"\1"
+                + struct.pack("<I", 2)
+                + guid_of(class_)
+                + b"\3"
+                + struct.pack("<I", 2)
+                + place
+                + IMAGES[value]
+            )
             disk = bytes(store.add(store.formatted(OF_TABLES), events))
-            self.serves(f"the table {row}", b"", *((0, b"", b"") if fits == "yes" else (3, b"", fault("damaged at 0"))), disk, disk, library=OF_TABLES)
+            self.serves(
+                f"the table {row}",
+                b"",
+                *((0, b"", b"") if fits == "yes" else (3, b"", fault("damaged at 0"))),
+                disk,
+                disk,
+                library=OF_TABLES,
+            )
 
     def test_the_last_number_that_an_object_can_have(self):
         last = bytes(changed(NEW, BODIES[2] + len(SMALL_TEXT), *struct.pack("<I", 4_294_967_294)))

@@ -1,16 +1,27 @@
-"""The locks of clients: what they take of memory and of instructions, and how many an array takes."""
+"""The locks of clients: what they take of memory and of instructions, and how many an array
+takes."""
 import struct
 import tempfile
 import unittest
 import uuid
 
-import instructions
-import wire
-from codes import ARRAY_IS_LOCKED, E_UNEXPECTED
-from memory import resident_of
-from oaut import DEFAULT, LOCK, NEW_VALUE, PROPERTYGET, PROPERTYPUT, REDIM, UNLOCK, ask_call, ask_create, ask_invoke
+from oaut import (
+    DEFAULT,
+    LOCK,
+    NEW_VALUE,
+    PROPERTYGET,
+    PROPERTYPUT,
+    REDIM,
+    UNLOCK,
+    ask_call,
+    ask_create,
+    ask_invoke,
+)
 from oaut.frames import join
-from running import PROGRAM, Cases, Talk, fill, run_in
+from tests.support import instructions, wire
+from tests.support.codes import ARRAY_IS_LOCKED, E_UNEXPECTED
+from tests.support.memory import resident_of
+from tests.support.running import PROGRAM, Cases, Talk, fill, run_in
 
 LIBRARY = b"""[uuid(11223344-5566-7788-99AA-BBCCDDEEFF01), version(1.0)]
 library Demo {
@@ -45,18 +56,30 @@ def record(tag, request):
 
 def call(opcode, key, rest=b""):
     """A LOCK, an UNLOCK or a REDIM of the array at a key of object 1."""
-    return ask_call(opcode, 1, 1, PROPERTYGET if opcode != REDIM else PROPERTYPUT, (), (text(key),), DEFAULT) + rest
+    return (
+        ask_call(
+            opcode, 1, 1, PROPERTYGET if opcode != REDIM else PROPERTYPUT, (), (text(key),), DEFAULT
+        )
+        + rest
+    )
 
 
 def made(keys):
     """An object with an array at each key."""
     grid = wire.array(wire.I2, [(1, 0)], [5])
-    return [ask_create(SHEET)] + [ask_invoke(1, 1, PROPERTYPUT, [NEW_VALUE], [grid, text(it)]) for it in keys]
+    return [ask_create(SHEET)] + [
+        ask_invoke(1, 1, PROPERTYPUT, [NEW_VALUE], [grid, text(it)]) for it in keys
+    ]
 
 
 def asks(*turns):
     """The frames of requests of clients, one each; of a client alone its end."""
-    return b"".join([join([(it, b"")]) if isinstance(it, int) else join([(it[0], record(tag, it[1]))]) for tag, it in enumerate(turns, 1)])
+    return b"".join(
+        [
+            join([(it, b"")]) if isinstance(it, int) else join([(it[0], record(tag, it[1]))])
+            for tag, it in enumerate(turns, 1)
+        ]
+    )
 
 
 def counted(tag, count):
@@ -80,7 +103,11 @@ class Session(Talk):
         told = []
         for at in range(0, len(requests), 1_000):
             some = requests[at : at + 1_000]
-            self.send(b"".join(join([(client, record(self.tags + tag, it))]) for tag, it in enumerate(some, 1)))
+            self.send(
+                b"".join(
+                    join([(client, record(self.tags + tag, it))]) for tag, it in enumerate(some, 1)
+                )
+            )
             self.tags += len(some)
             told += [self.reply() for _ in some]
         return told
@@ -107,9 +134,18 @@ class Memory(Cases):
             session.asks(7, *[call(LOCK, LONG)] * 3, *[call(UNLOCK, LONG)] * 2)
             before = resident_of(session.process.pid)
             told = session.asks(7, *[call(LOCK, LONG)] * 500)
-            self.tell("500 LOCKs of an array with a long key are counted", told[-1] == counted(session.tags, 501), told[-1])
+            self.tell(
+                "500 LOCKs of an array with a long key are counted",
+                told[-1] == counted(session.tags, 501),
+                told[-1],
+            )
             more = resident_of(session.process.pid) - before
-            self.tell("500 LOCKs of an array with a long key take at most 2 MiB, where each has a record of 0.2", more <= 2 * MIB, more)
+            self.tell(
+                "500 LOCKs of an array with a long key take at most 2 MiB, where each has a "
+                "record of 0.2",
+                more <= 2 * MIB,
+                more,
+            )
 
     def test_all_locks_of_an_array(self):
         with Session() as session:
@@ -117,17 +153,32 @@ class Memory(Cases):
             session.asks(7, *[call(LOCK, "a")] * 100)
             before = resident_of(session.process.pid)
             told = session.asks(7, *[call(LOCK, "a")] * (MOST - 100))
-            self.tell("an array takes 65,535 locks of one client", told[-1] == counted(session.tags, MOST), told[-1])
+            self.tell(
+                "an array takes 65,535 locks of one client",
+                told[-1] == counted(session.tags, MOST),
+                told[-1],
+            )
             more = resident_of(session.process.pid) - before
             self.tell("65,435 LOCKs more take at most 1 MiB", more <= MIB, more)
             told = session.asks(7, call(LOCK, "a"), call(UNLOCK, "a"), call(LOCK, "a"))
-            wanted = [refused(session.tags - 2, E_UNEXPECTED), counted(session.tags - 1, MOST - 1), counted(session.tags, MOST)]
+            wanted = [
+                refused(session.tags - 2, E_UNEXPECTED),
+                counted(session.tags - 1, MOST - 1),
+                counted(session.tags, MOST),
+            ]
             self.tell("and no more", told == wanted, (wanted, told))
-            self.tell("another has none", session.asks(9, call(UNLOCK, "a")) == [refused(session.tags, E_UNEXPECTED)])
+            self.tell(
+                "another has none",
+                session.asks(9, call(UNLOCK, "a")) == [refused(session.tags, E_UNEXPECTED)],
+            )
             session.send(join([(7, b"")]))
             self.tell("its end is told", session.bytes(8) == join([(7, b"")]))
             told = session.asks(9, call(LOCK, "a"), call(UNLOCK, "a"))
-            self.tell("all go with it", told == [counted(session.tags - 1, 1), counted(session.tags, 0)], told)
+            self.tell(
+                "all go with it",
+                told == [counted(session.tags - 1, 1), counted(session.tags, 0)],
+                told,
+            )
 
 
 class Clients(Cases):
@@ -135,7 +186,14 @@ class Clients(Cases):
         bound = struct.pack("<Ii", 9, 0)
         front = [(1, it) for it in made(["a"])]
         turns = front + [(it, call(LOCK, "a")) for it in range(1, MOST + 1)]
-        turns += [(0, call(LOCK, "a")), (0, call(UNLOCK, "a")), (1, call(UNLOCK, "a")), (1, call(UNLOCK, "a")), 2, (0, call(LOCK, "a"))]
+        turns += [
+            (0, call(LOCK, "a")),
+            (0, call(UNLOCK, "a")),
+            (1, call(UNLOCK, "a")),
+            (1, call(UNLOCK, "a")),
+            2,
+            (0, call(LOCK, "a")),
+        ]
         turns += [*range(3, MOST + 1), (1, call(REDIM, "a", bound)), 0, (1, call(LOCK, "a"))]
         tag = len(front)
         wanted = [(it, counted(tag + it, it)) for it in range(1, MOST + 1)]
@@ -150,7 +208,12 @@ class Clients(Cases):
         tag += 6
         wanted += [(it, b"") for it in range(3, MOST + 1)]
         tag += MOST - 2
-        wanted += [(1, refused(tag + 1, ARRAY_IS_LOCKED)), (0, b""), (1, counted(tag + 3, 1)), (1, b"")]
+        wanted += [
+            (1, refused(tag + 1, ARRAY_IS_LOCKED)),
+            (0, b""),
+            (1, counted(tag + 3, 1)),
+            (1, b""),
+        ]
         with tempfile.TemporaryDirectory() as room:
             fill(room, {"lib.idl": LIBRARY})
             status, out, err = run_in(room, ["play", "--shared", "lib.idl"], given=asks(*turns))
@@ -169,21 +232,33 @@ class Instructions(Cases):
         found = {it: [] for it in cases}
         with tempfile.TemporaryDirectory() as room:
             fill(room, {"lib.idl": LIBRARY})
-            of = lambda turns: instructions.of_program([PROGRAM, "play", "--shared", "lib.idl"], asks(*turns), room)
+            of = lambda turns: instructions.of_program(
+                [PROGRAM, "play", "--shared", "lib.idl"], asks(*turns), room
+            )
             for locks in (FEW, MANY):
                 begun = of(front(locks))
                 for what, turns in cases.items():
                     found[what].append((of(front(locks) + turns) - begun) // TIMES)
         for what, (few, many) in found.items():
-            self.tell(f"{what} beside {MANY} locks takes at most twice the instructions of one beside {FEW}", 0 < many <= 2 * few, (few, many))
+            self.tell(
+                f"{what} beside {MANY} locks takes at most twice the instructions of one beside "
+                f"{FEW}",
+                0 < many <= 2 * few,
+                (few, many),
+            )
 
     def test_beside_locks_of_many_clients(self):
-        ended = lambda opcode: [it for at in range(TIMES) for it in ((50_000 + at, call(opcode, "a")), 50_000 + at)]
+        ended = lambda opcode: [
+            it for at in range(TIMES) for it in ((50_000 + at, call(opcode, "a")), 50_000 + at)
+        ]
         self.grows_little(
-            lambda locks: [(1, it) for it in made(["a"])] + [(9 + it, call(LOCK, "a")) for it in range(locks)],
+            lambda locks: [(1, it) for it in made(["a"])]
+            + [(9 + it, call(LOCK, "a")) for it in range(locks)],
             {
                 "an UNLOCK that is refused": [(2, call(UNLOCK, "a"))] * TIMES,
-                "a LOCK and an UNLOCK": [(2, call(it, "a")) for it in (LOCK, UNLOCK) for _ in range(TIMES)],
+                "a LOCK and an UNLOCK": [
+                    (2, call(it, "a")) for it in (LOCK, UNLOCK) for _ in range(TIMES)
+                ],
                 "the end of a client without locks": ended(UNLOCK),
                 "the end of a client with a lock": ended(LOCK),
             },
@@ -191,9 +266,12 @@ class Instructions(Cases):
 
     def test_beside_locks_of_one_client(self):
         self.grows_little(
-            lambda locks: [(1, it) for it in made(f"{at}" for at in range(locks))] + [(9, call(LOCK, f"{at}")) for at in range(locks)],
+            lambda locks: [(1, it) for it in made(f"{at}" for at in range(locks))]
+            + [(9, call(LOCK, f"{at}")) for at in range(locks)],
             {
                 "an UNLOCK that is refused": [(2, call(UNLOCK, "7"))] * TIMES,
-                "a LOCK and an UNLOCK of the client with the locks": [(9, call(it, "7")) for it in (LOCK, UNLOCK) for _ in range(TIMES)],
+                "a LOCK and an UNLOCK of the client with the locks": [
+                    (9, call(it, "7")) for it in (LOCK, UNLOCK) for _ in range(TIMES)
+                ],
             },
         )

@@ -1,13 +1,15 @@
-"""The tests of crates while memory is refused. Each test of the two crates of raw memory with one call of the allocator refused: its first, then its second, and so on, as often as it calls. It has to
-pass each time, and to free each block that it got. And tests of calls that take no memory, with all of it refused from each call of the allocator on: the values that they begin with are not made then,
-and nothing else is found. The tests are those that `rt ci` has built."""
+"""The tests of crates while memory is refused. Each test of the two crates of raw memory with one
+call of the allocator refused: its first, then its second, and so on, as often as it calls. It has
+to pass each time, and to free each block that it got. And tests of calls that take no memory, with
+all of it refused from each call of the allocator on: the values that they begin with are not made
+then, and nothing else is found. The tests are those that `rt ci` has built."""
 import os
 import re
 import subprocess
 import unittest
 
-from preloaded import COMPILER, Preloaded
-from running import ROOT, Cases
+from tests.support.preloaded import COMPILER, Preloaded
+from tests.support.running import ROOT, Cases
 
 
 def tests_of(crate):
@@ -27,7 +29,10 @@ def names_of(tests, front):
     return re.findall(rf"^({front}\w*)", listed, re.MULTILINE)
 
 
-@unittest.skipUnless(COMPILER and all(map(os.path.exists, (VALUES, STORAGE))), "cc and the built tests of oa_value_tests and oa_storage_tests are not there")
+@unittest.skipUnless(
+    COMPILER and all(map(os.path.exists, (VALUES, STORAGE))),
+    "cc and the built tests of oa_value_tests and oa_storage_tests are not there",
+)
 class RawMemory(Cases):
     def test_each_growth_refused(self):
         refused = 0
@@ -38,7 +43,9 @@ class RawMemory(Cases):
                     found = room.run([name], program=VALUES, refuse=number)
                     calls = found.calls
                     self.tell(
-                        f"{name}, call {number} refused", (found.status, found.left) == (0, 0), (found.status, found.left, found.out[-200:], found.err[-200:])
+                        f"{name}, call {number} refused",
+                        (found.status, found.left) == (0, 0),
+                        (found.status, found.left, found.out[-200:], found.err[-200:]),
                     )
                     refused, number = refused + 1, number + 1
         print(f"raw memory: {refused} calls of the allocator refused in turn")
@@ -46,9 +53,15 @@ class RawMemory(Cases):
     def test_calls_that_take_no_memory(self):
         tried = 0
         with Preloaded() as room:
-            for tests, name in ((tests, it) for tests, front in WITHOUT for it in names_of(tests, front)):
+            for tests, name in (
+                (tests, it) for tests, front in WITHOUT for it in names_of(tests, front)
+            ):
                 ample = room.run([name], program=tests)
-                self.tell(f"{name} with ample memory", (ample.status, ample.left, ample.calls > 0) == (0, 0, True), ample)
+                self.tell(
+                    f"{name} with ample memory",
+                    (ample.status, ample.left, ample.calls > 0) == (0, 0, True),
+                    ample,
+                )
                 for since in range(1, ample.calls + 1):
                     found = room.run([name], program=tests, refuse_from=since)
                     self.tell(

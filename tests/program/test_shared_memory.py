@@ -1,8 +1,9 @@
-"""The memory of a shared session: of a client that is there no more is kept than what came of one record, whatever its length says, and twice of that at most."""
+"""The memory of a shared session: of a client that is there no more is kept than what came of one
+record, whatever its length says, and twice of that at most."""
 import struct
 
-from running import SMALL, Cases, Talk, run
-from sharing import BODY_LIMIT, STUB, oaut
+from tests.support.running import SMALL, Cases, Talk, run
+from tests.support.sharing import BODY_LIMIT, STUB, oaut
 
 CLIENTS = 1_000
 MOST = 65_536  # clients that are there at once in one session
@@ -45,30 +46,61 @@ class SharedMemory(Cases):
                 session.sends([(it, begun) for it in everybody])
                 self.tell(f"{turn}: they begin", session.answers())
                 if turn == "first":
-                    self.tell("a length takes no memory", held() <= CLIENTS * 2 * LITTLE + BESIDE, held())
+                    self.tell(
+                        "a length takes no memory", held() <= CLIENTS * 2 * LITTLE + BESIDE, held()
+                    )
                 session.sends([(it, bytes(MORE)) for it in everybody])
                 self.tell(f"{turn}: they go on", session.answers())
-                self.tell(f"{turn}: twice of what came at most", held() <= CLIENTS * 2 * (LITTLE + MORE) + BESIDE, held())
+                self.tell(
+                    f"{turn}: twice of what came at most",
+                    held() <= CLIENTS * 2 * (LITTLE + MORE) + BESIDE,
+                    held(),
+                )
                 session.sends([(it, b"") for it in everybody])
-                ends = oaut.frames.join([part for it in everybody for part in ((it, STUB), (it, b""))])
+                ends = oaut.frames.join(
+                    [part for it in everybody for part in ((it, STUB), (it, b""))]
+                )
                 self.tell(f"{turn}: each is told its end", session.bytes(len(ends)) == ends)
             most = held()
-            session.sends([(7, struct.pack("<I", BODY_LIMIT)), *((7, bytes(MIB)) for _ in range(4))])
+            session.sends(
+                [(7, struct.pack("<I", BODY_LIMIT)), *((7, bytes(MIB)) for _ in range(4))]
+            )
             session.sends([(7, NONE)])
-            self.tell("the longest record of one", session.bytes(56) == oaut.frames.join([(7, NO_REQUEST.replace(b"M\0\0\0", bytes(4))), (7, NO_REQUEST)]))
+            self.tell(
+                "the longest record of one",
+                session.bytes(56)
+                == oaut.frames.join(
+                    [(7, NO_REQUEST.replace(b"M\0\0\0", bytes(4))), (7, NO_REQUEST)]
+                ),
+            )
             self.tell("twice of it at most", held() <= most + 2 * BODY_LIMIT + BESIDE, held())
             for it in range(20):
-                session.sends([(it, struct.pack("<I", BODY_LIMIT)), *((it, bytes(MIB)) for _ in range(4))])
+                session.sends(
+                    [(it, struct.pack("<I", BODY_LIMIT)), *((it, bytes(MIB)) for _ in range(4))]
+                )
                 session.bytes(28)
-            self.tell("and no more for twenty of it, each of a client that stays", held() <= most + 2 * BODY_LIMIT + BESIDE, held())
+            self.tell(
+                "and no more for twenty of it, each of a client that stays",
+                held() <= most + 2 * BODY_LIMIT + BESIDE,
+                held(),
+            )
             session.process.stdin.close()
             ends = oaut.frames.join([*((it, b"") for it in range(20)), (ASKS, b"")])
             self.tell("its end", session.status() == 0 and session.process.stdout.read() == ends)
 
     def test_sixty_five_thousand_clients_are_there_at_once(self):
-        """None of them is refused: each has sent half of its record before any has sent the other half."""
+        """None of them is refused: each has sent half of its record before any has sent the other
+        half."""
         everybody = range(MOST)
-        given = oaut.frames.join([*((it, NONE[:6]) for it in everybody), *((it, NONE[6:]) for it in everybody)])
-        wanted = oaut.frames.join([*((it, NO_REQUEST) for it in everybody), *((it, b"") for it in everybody)])
+        given = oaut.frames.join(
+            [*((it, NONE[:6]) for it in everybody), *((it, NONE[6:]) for it in everybody)]
+        )
+        wanted = oaut.frames.join(
+            [*((it, NO_REQUEST) for it in everybody), *((it, b"") for it in everybody)]
+        )
         status, out, err = run(("play", "--shared", "small.idl"), given, {"small.idl": SMALL})
-        self.tell("each is answered, and then told its end", (status, out == wanted, err) == (0, True, b""), (status, len(out), err[:200]))
+        self.tell(
+            "each is answered, and then told its end",
+            (status, out == wanted, err) == (0, True, b""),
+            (status, len(out), err[:200]),
+        )

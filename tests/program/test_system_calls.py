@@ -1,4 +1,5 @@
-"""Each call of the system that the program makes, failed by each error that its manual page has: the table tests/tables/system_calls.txt has what is printed, and the status."""
+"""Each call of the system that the program makes, failed by each error that its manual page has:
+the table tests/tables/system_calls.txt has what is printed, and the status."""
 import collections
 import contextlib
 import errno
@@ -6,34 +7,48 @@ import os
 import struct
 import unittest
 
-import wire
-import worked
-import store
-from codes import E_FAIL, WRITE_FAULT
-from due import replies_of
-from imports import imports_of
-from model import LIBRARY, first_library
 from oaut.frames import join
-from preloaded import COMPILER, Preloaded, StoreFile, read
-from running import CREATE, CREATED, PROGRAM, SMALL, Cases, cannot, fault, rows_of
-from stores import NEW, OLD, ONE, put, table
-from wire import oaut
+from tests.support import store, wire, worked
+from tests.support.codes import E_FAIL, WRITE_FAULT
+from tests.support.due import replies_of
+from tests.support.imports import imports_of
+from tests.support.model import LIBRARY, first_library
+from tests.support.preloaded import COMPILER, Preloaded, StoreFile, read
+from tests.support.running import CREATE, CREATED, PROGRAM, SMALL, Cases, cannot, fault, rows_of
+from tests.support.stores import NEW, OLD, ONE, put, table
+from tests.support.wire import oaut
 
 # what the C library does by itself, without a call of the system that may fail in a way of its own
-OF_THE_LIBRARY = {"__errno_location", "__libc_start_main", "__sysv_signal", "__x86_get_cpuid_feature_leaf", "__xpg_strerror_r"}
+OF_THE_LIBRARY = {
+    "__errno_location",
+    "__libc_start_main",
+    "__sysv_signal",
+    "__x86_get_cpuid_feature_leaf",
+    "__xpg_strerror_r",
+}
 OF_THE_LIBRARY |= {"free", "malloc", "memcpy", "memmove", "memset", "realloc"}
-# imported, and called by no command: the rights of a file are not changed, and what ends a program that breaks a rule of its own writes a line
+# imported, and called by no command: the rights of a file are not changed, and what ends a program
+# that breaks a rule of its own writes a line
 NEVER_CALLED = {"__write", "fchmod"}
 SIZE = 75_505_664
 SHORT = OLD + bytes(SIZE - 100_000 - len(OLD))  # lacks two pieces of zeros
 REQUESTS = CREATE + b"\n" + put(2, 7) + put(3, 8)
 REPLIES = CREATED + b"\n" + wire.reply(2) + wire.reply(3)
-# the same of two clients, and two more requests: as the input is waited for, a group of three has been committed, and one is open
+# the same of two clients, and two more requests: as the input is waited for, a group of three has
+# been committed, and one is open
 LINES = (REQUESTS + put(4, 9) + put(5, 10)).splitlines()
-FRAMES = join([(at % 2, oaut.Raw.pack([bytes.fromhex(line.decode())])) for at, line in enumerate(LINES)])
+FRAMES = join(
+    [(at % 2, oaut.Raw.pack([bytes.fromhex(line.decode())])) for at, line in enumerate(LINES)]
+)
 # replies of two clients that leave in some writes
-MANY = join([(at % 2, oaut.Raw.pack([struct.pack("<I", at) + worked.get(worked.COUNT, of=77)] * 20)) for at in range(60)])
-STATES = ["next 1\n", table(), table(7), table(8)]  # what the store holds after none of the requests, one, two and three
+MANY = join(
+    [
+        (at % 2, oaut.Raw.pack([struct.pack("<I", at) + worked.get(worked.COUNT, of=77)] * 20))
+        for at in range(60)
+    ]
+)
+# what the store holds after none of the requests, one, two and three
+STATES = ["next 1\n", table(), table(7), table(8)]
 # the words of a command, its standard input, and the file of a store that it begins with
 COMMANDS = {
     "check": (["check", "lib.idl"], b"", None),
@@ -61,14 +76,20 @@ LOOKS = {"new": {"statx"}}  # the same of one command: before a name is removed,
 # calls that a command makes as another one does, in whose rows they are
 OPENS_LIBRARY = {("open", "library"), ("read", "library"), ("close", "library")}
 OPENS_ROOT = {("open", "root"), ("close", "root")}
-OPENS_STORE = {(call, "store") for call in ("open", "statx", "flock", "fsync", "fdatasync", "pread", "close")} | {
-    (call, "limits") for call in ("open", "read", "close")
-}
+OPENS_STORE = {
+    (call, "store") for call in ("open", "statx", "flock", "fsync", "fdatasync", "pread", "close")
+} | {(call, "limits") for call in ("open", "read", "close")}
 BESIDE = {
     "check-input": {("write", "output")},
     **{it: OPENS_LIBRARY for it in ("play", "shared", "refused", "new")},
-    "shared-store": OPENS_LIBRARY | OPENS_ROOT | OPENS_STORE | {("pwrite", "store"), ("lseek", "input")},
-    "shared-long": OPENS_LIBRARY | OPENS_ROOT | OPENS_STORE | {("pwrite", "store"), ("lseek", "input"), ("read", "input")},
+    "shared-store": OPENS_LIBRARY
+    | OPENS_ROOT
+    | OPENS_STORE
+    | {("pwrite", "store"), ("lseek", "input")},
+    "shared-long": OPENS_LIBRARY
+    | OPENS_ROOT
+    | OPENS_STORE
+    | {("pwrite", "store"), ("lseek", "input"), ("read", "input")},
 }
 
 
@@ -86,13 +107,24 @@ def rows():
 
 def file_of(path, room):
     """What a call was made on, as the table names it."""
-    known = {f"{room}/it.store": "store", f"{room}/lib.idl": "library", f"{room}/wrong.idl": "library", room: "folder", "/": "root"}
+    known = {
+        f"{room}/it.store": "store",
+        f"{room}/lib.idl": "library",
+        f"{room}/wrong.idl": "library",
+        room: "folder",
+        "/": "root",
+    }
     streams = {"0": "input", "1": "output", "2": "errors"}
-    return streams.get(path) or ("limits" if path.startswith("/proc/") and path.endswith("/limits") else known.get(path, path))
+    return streams.get(path) or (
+        "limits"
+        if path.startswith("/proc/") and path.endswith("/limits")
+        else known.get(path, path)
+    )
 
 
 class Run:
-    """A command with ample memory and calls that do not fail, but for those that are named, and the calls that it makes."""
+    """A command with ample memory and calls that do not fail, but for those that are named, and the
+    calls that it makes."""
 
     def __init__(self, preloaded, command, *failing):
         words, given, disk = COMMANDS[command]
@@ -108,8 +140,14 @@ class Run:
             STORES[command].path = self.path
             STORES[command].lay()
         preloaded.fill("given", given)
-        how = {"fail": ",".join(f"{name}:{error}:{nth}" for name, error, nth in failing)} if failing else {}
-        words = [preloaded.path(it) if it in ("lib.idl", "wrong.idl", "it.store") else it for it in words]
+        how = (
+            {"fail": ",".join(f"{name}:{error}:{nth}" for name, error, nth in failing)}
+            if failing
+            else {}
+        )
+        words = [
+            preloaded.path(it) if it in ("lib.idl", "wrong.idl", "it.store") else it for it in words
+        ]
         with contextlib.suppress(FileNotFoundError):
             os.remove(preloaded.path("log"))
         got = preloaded.run(words, "given", log=preloaded.path("log"), **how)
@@ -147,7 +185,8 @@ def chosen(calls, which):
 
 
 def answer_of(outcome, name, whole, written):
-    """What a run prints, and its status, where a call fails: by the outcome, the error and the run in which none fails."""
+    """What a run prints, and its status, where a call fails: by the outcome, the error and the run
+    in which none fails."""
     status, out, err = whole.answer
     named = "lib.idl"
     if written is not None:
@@ -179,7 +218,11 @@ class SystemCalls(Cases):
         """A function of the C library that the program imports has its rows, or makes no call."""
         errors, _ = rows()
         found = imports_of(PROGRAM) - OF_THE_LIBRARY - NEVER_CALLED
-        self.tell("the program calls what the table has", {it.replace("64", "") for it in found} == {*errors}, found ^ {*errors})
+        self.tell(
+            "the program calls what the table has",
+            {it.replace("64", "") for it in found} == {*errors},
+            found ^ {*errors},
+        )
 
     def fails(self, *commands):
         """Each call of some commands by each of its errors."""
@@ -194,15 +237,31 @@ class SystemCalls(Cases):
                 for of, name, file, which, outcome, others in table_rows:
                     if of != command:
                         continue
-                    picked = chosen([it for it in whole.calls if (it[0], it[2]) == (name, file)], which)
+                    picked = chosen(
+                        [it for it in whole.calls if (it[0], it[2]) == (name, file)], which
+                    )
                     covered.add((name, file))
-                    self.tell(f"{command}: {name} on {file}, {which}: it is made", picked, whole.calls)
+                    self.tell(
+                        f"{command}: {name} on {file}, {which}: it is made", picked, whole.calls
+                    )
                     for call in picked:
                         for error in errors[name]:
                             run = Run(preloaded, command, (name, getattr(errno, error), call[1]))
                             tried += 1
-                            self.judge(f"{command}: {name} {call[1]} on {file} fails with {error}", others.get(error, outcome), error, call, run, whole, left)
-                others = {(name, file) for name, _, file in whole.calls} - covered - BESIDE.get(command, set())
+                            self.judge(
+                                f"{command}: {name} {call[1]} on {file} fails with {error}",
+                                others.get(error, outcome),
+                                error,
+                                call,
+                                run,
+                                whole,
+                                left,
+                            )
+                others = (
+                    {(name, file) for name, _, file in whole.calls}
+                    - covered
+                    - BESIDE.get(command, set())
+                )
                 if command not in FULL_FIRST:
                     self.tell(f"{command}: each call has a row", not others, others)
         print(f"system calls: {tried} of {', '.join(commands)} failed in turn", flush=True)
@@ -239,28 +298,47 @@ class SystemCalls(Cases):
             worked.call(oaut.LOCK, worked.GRID),
             worked.call(oaut.UNLOCK, worked.GRID),
         ]
-        bodies = [struct.pack("<I", tag) + it for tag, it in enumerate([*asked, worked.get(worked.GRID)])]
+        bodies = [
+            struct.pack("<I", tag) + it for tag, it in enumerate([*asked, worked.get(worked.GRID)])
+        ]
         due = [0, WRITE_FAULT, E_FAIL, E_FAIL, E_FAIL]
         disk = StoreFile("", bytes(store.formatted(first_library().text())))
         for words, given in (
             (["serve"], oaut.Raw.pack(bodies)),
-            (["serve", "--shared"], join([(at % 2, oaut.Raw.pack([body])) for at, body in enumerate(bodies)])),
+            (
+                ["serve", "--shared"],
+                join([(at % 2, oaut.Raw.pack([body])) for at, body in enumerate(bodies)]),
+            ),
         ):
             with Preloaded() as preloaded:
                 preloaded.fill("lib.idl", LIBRARY)
                 preloaded.fill("given", given)
                 disk.path = preloaded.path("it.store")
                 disk.lay()
-                got = preloaded.run([*words, disk.path, preloaded.path("lib.idl")], "given", fail=f"fdatasync:{errno.EIO}:4")
+                got = preloaded.run(
+                    [*words, disk.path, preloaded.path("lib.idl")],
+                    "given",
+                    fail=f"fdatasync:{errno.EIO}:4",
+                )
                 replies = (
-                    [it for _, data in oaut.frames.split(got.out)[0] for it in [data[4:]] if data] if "--shared" in words else replies_of(got.out, oaut.Raw)
+                    [it for _, data in oaut.frames.split(got.out)[0] for it in [data[4:]] if data]
+                    if "--shared" in words
+                    else replies_of(got.out, oaut.Raw)
                 )
                 codes = [struct.unpack_from("<I", it, 4)[0] for it in replies]
-                self.tell(f"{' '.join(words)}: the second commit fails, and what comes behind it", (got.status, codes) == (0, due), (got.status, codes))
+                self.tell(
+                    f"{' '.join(words)}: the second commit fails, and what comes behind it",
+                    (got.status, codes) == (0, due),
+                    (got.status, codes),
+                )
 
     def test_each_command_is_tried(self):
         _, table_rows = rows()
-        self.tell("each command of the table is run", {it[0] for it in table_rows} == {*COMMANDS}, {it[0] for it in table_rows} ^ {*COMMANDS})
+        self.tell(
+            "each command of the table is run",
+            {it[0] for it in table_rows} == {*COMMANDS},
+            {it[0] for it in table_rows} ^ {*COMMANDS},
+        )
 
     def judge(self, name, outcome, error, call, run, whole, left):
         file = call[2]
@@ -277,28 +355,41 @@ class SystemCalls(Cases):
             self.judge_writes(name, call, run, whole)
             wanted = 1, run.answer[1], wanted[2]
         self.tell(name, run.answer == wanted, (run.answer, wanted))
-        same = [it[0] for it in run.calls].count(call[0]) - [it[0] for it in whole.calls].count(call[0])
+        same = [it[0] for it in run.calls].count(call[0]) - [it[0] for it in whole.calls].count(
+            call[0]
+        )
         if outcome == "again":
             self.tell(f"{name}: it is made again, once", same == 1, same)
-        if outcome in ("done", "again", "write-fault", "silent") or (outcome == "read-fault" and run.answer[1]):
+        if outcome in ("done", "again", "write-fault", "silent") or (
+            outcome == "read-fault" and run.answer[1]
+        ):
             self.tell(f"{name}: the store is the same", run.holds() == left, run.holds())
             return
         at = run.calls.index(call)
         behind = {it[0] for it in run.calls[at + 1 :] if it[2] == "store"}
         if outcome != "in-use" and file in ("store", "folder") and error != "ENOENT":
-            self.tell(f"{name}: no other call of the store is made", behind <= FINAL | LOOKS.get(run.command, set()), behind)
+            self.tell(
+                f"{name}: no other call of the store is made",
+                behind <= FINAL | LOOKS.get(run.command, set()),
+                behind,
+            )
         self.judge_store(name, outcome, run)
 
     def judge_writes(self, name, call, run, whole):
         """What was written before is a first part, and nothing is written behind it."""
         first = next(nth for kind, nth, file in whole.calls if (kind, file) == ("write", "output"))
         out = run.answer[1]
-        self.tell(f"{name}: what was written", whole.answer[1].startswith(out) and bool(out) == (call[1] > first), out[:80])
+        self.tell(
+            f"{name}: what was written",
+            whole.answer[1].startswith(out) and bool(out) == (call[1] > first),
+            out[:80],
+        )
         behind = [it for it in run.calls[run.calls.index(call) + 1 :] if it[2] == "output"]
         self.tell(f"{name}: nothing is written behind it", not behind, behind)
 
     def judge_store(self, name, outcome, run):
-        """A file that was not opened is as it was, a new one that could not be filled is gone, and a longer one has its length of before."""
+        """A file that was not opened is as it was, a new one that could not be filled is gone, and
+        a longer one has its length of before."""
         command = name.split(":")[0]
         now = run.holds()
         if command in ("new", "check", "check-input", "play", "shared", "refused"):
@@ -307,9 +398,17 @@ class SystemCalls(Cases):
         elif command == "upgrade-full":
             self.tell(f"{name}: what the store holds is there", now[0] == ONE, now)
         elif command == "upgrade":
-            self.tell(f"{name}: what the store holds is there", now[0] == ONE and (now[1] == len(SHORT) or outcome == "device-write"), now)
+            self.tell(
+                f"{name}: what the store holds is there",
+                now[0] == ONE and (now[1] == len(SHORT) or outcome == "device-write"),
+                now,
+            )
         elif command == "new-full":
-            self.tell(f"{name}: the file that could not be removed is no store", now[0] == "not a store", now)
+            self.tell(
+                f"{name}: the file that could not be removed is no store",
+                now[0] == "not a store",
+                now,
+            )
         elif outcome != "device-write":
             self.tell(f"{name}: the store is as it was", STORES[command].is_as_laid(), now)
 
@@ -325,4 +424,8 @@ class SystemCalls(Cases):
         behind = {it[0] for it in run.calls[at + 1 :] if it[2] == "store"}
         self.tell(f"{name}: no other call of the store is made", behind <= FINAL, behind)
         now = run.holds()[0]
-        self.tell(f"{name}: the store holds what it held before the request, or after it", now in STATES[group : group + 2], now)
+        self.tell(
+            f"{name}: the store holds what it held before the request, or after it",
+            now in STATES[group : group + 2],
+            now,
+        )

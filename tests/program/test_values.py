@@ -1,36 +1,74 @@
-"""Values of every scalar type, requests that are refused for theirs, and what values become as ones of other types."""
+"""Values of every scalar type, requests that are refused for theirs, and what values become as ones
+of other types."""
 import struct
 
-import wire
-from codes import BAD_PARAM_COUNT, BAD_STUB, BAD_VAR_TYPE, CLASS_NOT_REGISTERED, E_INVALIDARG, E_UNEXPECTED, MEMBER_NOT_FOUND, OVERFLOW, TYPE_MISMATCH
-from playing import Played
-from running import CREATE, FULL, SMALL, rows_of, run
-from texts import coclass, interface, library_with
-from turns import FOUR, HALF, HI, NO_VALUE, bstr, calls, gets, i2, i4, puts
+from tests.support import wire
+from tests.support.codes import (
+    BAD_PARAM_COUNT,
+    BAD_STUB,
+    BAD_VAR_TYPE,
+    CLASS_NOT_REGISTERED,
+    E_INVALIDARG,
+    E_UNEXPECTED,
+    MEMBER_NOT_FOUND,
+    OVERFLOW,
+    TYPE_MISMATCH,
+)
+from tests.support.playing import Played
+from tests.support.running import CREATE, FULL, SMALL, rows_of, run
+from tests.support.texts import coclass, interface, library_with
+from tests.support.turns import FOUR, HALF, HI, NO_VALUE, bstr, calls, gets, i2, i4, puts
 
-LARGEST_DECIMAL = bytes.fromhex("05000000000000000e000000000000000e0000000000000000001c00ffffffffffffffffffffffff")
+LARGEST_DECIMAL = bytes.fromhex(
+    "05000000000000000e000000000000000e0000000000000000001c00ffffffffffffffffffffffff"
+)
 LONGEST = bytes(range(256)) * 4_096
 
-# Of each type: its word, the zero that a property of it reads first, and values that are put and read back. A pair is read back as its second.
+# Of each type: its word, the zero that a property of it reads first, and values that are put and
+# read back. A pair is read back as its second.
 ROWS = [
     ("char", wire.scalar(wire.I1, 0), [wire.scalar(wire.I1, -128), wire.scalar(wire.I1, 127)]),
     ("unsigned char", wire.scalar(wire.UI1, 0), [wire.scalar(wire.UI1, 255)]),
-    ("short", wire.scalar(wire.I2, 0), [wire.scalar(wire.I2, -32_768), wire.scalar(wire.I2, 32_767)]),
+    (
+        "short",
+        wire.scalar(wire.I2, 0),
+        [wire.scalar(wire.I2, -32_768), wire.scalar(wire.I2, 32_767)],
+    ),
     ("unsigned short", wire.scalar(wire.UI2, 0), [wire.scalar(wire.UI2, 65_535)]),
-    ("long", wire.scalar(wire.I4, 0), [wire.scalar(wire.I4, -(2**31)), wire.scalar(wire.I4, 2**31 - 1)]),
+    (
+        "long",
+        wire.scalar(wire.I4, 0),
+        [wire.scalar(wire.I4, -(2**31)), wire.scalar(wire.I4, 2**31 - 1)],
+    ),
     ("unsigned long", wire.scalar(wire.UI4, 0), [wire.scalar(wire.UI4, 2**32 - 1)]),
     ("int", wire.scalar(wire.INT, 0), [wire.scalar(wire.INT, -1)]),
     ("unsigned int", wire.scalar(wire.UINT, 0), [wire.scalar(wire.UINT, 2**31)]),
-    ("hyper", wire.scalar(wire.I8, 0), [wire.scalar(wire.I8, -(2**63)), wire.scalar(wire.I8, 2**63 - 1)]),
+    (
+        "hyper",
+        wire.scalar(wire.I8, 0),
+        [wire.scalar(wire.I8, -(2**63)), wire.scalar(wire.I8, 2**63 - 1)],
+    ),
     ("unsigned hyper", wire.scalar(wire.UI8, 0), [wire.scalar(wire.UI8, 2**64 - 1)]),
-    ("CURRENCY", wire.scalar(wire.CY, 0), [bytes.fromhex("0400000000000000060000000000000006000000" "00000000" "a861000000000000")]),
+    (
+        "CURRENCY",
+        wire.scalar(wire.CY, 0),
+        [bytes.fromhex("0400000000000000060000000000000006000000" "00000000" "a861000000000000")],
+    ),
     (
         "VARIANT_BOOL",
         wire.scalar(wire.BOOL, 0),
-        [bytes.fromhex("03000000000000000b000000000000000b000000ffff"), (wire.scalar(wire.BOOL, 1), wire.scalar(wire.BOOL, 0xFFFF)), wire.scalar(wire.BOOL, 0)],
+        [
+            bytes.fromhex("03000000000000000b000000000000000b000000ffff"),
+            (wire.scalar(wire.BOOL, 1), wire.scalar(wire.BOOL, 0xFFFF)),
+            wire.scalar(wire.BOOL, 0),
+        ],
     ),
     ("SCODE", wire.scalar(wire.ERROR, 0), [wire.scalar(wire.ERROR, 0x8000_4005)]),
-    ("DECIMAL", wire.scalar(wire.DECIMAL, (0, 0, 0)), [LARGEST_DECIMAL, wire.scalar(wire.DECIMAL, (2, 0x80, 2**64 + 5))]),
+    (
+        "DECIMAL",
+        wire.scalar(wire.DECIMAL, (0, 0, 0)),
+        [LARGEST_DECIMAL, wire.scalar(wire.DECIMAL, (2, 0x80, 2**64 + 5))],
+    ),
     (
         "BSTR",
         wire.scalar(wire.BSTR),
@@ -42,10 +80,26 @@ ROWS = [
             wire.scalar(wire.BSTR),
         ],
     ),
-    ("VARIANT", wire.scalar(wire.EMPTY), [wire.scalar(wire.NULL), wire.scalar(wire.EMPTY), wire.scalar(wire.UINT, 1), HI, LARGEST_DECIMAL]),
+    (
+        "VARIANT",
+        wire.scalar(wire.EMPTY),
+        [
+            wire.scalar(wire.NULL),
+            wire.scalar(wire.EMPTY),
+            wire.scalar(wire.UINT, 1),
+            HI,
+            LARGEST_DECIMAL,
+        ],
+    ),
 ]
 VALUES = library_with(
-    interface(b"2", body=b" ".join(b"[id(%d)] %s P%d;" % (id, row[0].encode(), id) for id, row in enumerate(ROWS, 1)) + b" [id(17), readonly] long Version;")
+    interface(
+        b"2",
+        body=b" ".join(
+            b"[id(%d)] %s P%d;" % (id, row[0].encode(), id) for id, row in enumerate(ROWS, 1)
+        )
+        + b" [id(17), readonly] long Version;",
+    )
     + coclass(b"3", body=b"[default] dispinterface DItem;")
 )
 LONG, TEXT = (1 + [row[0] for row in ROWS].index(word) for word in ("long", "BSTR"))
@@ -65,12 +119,15 @@ def said_value(one, word):
         return wire.scalar(wire.BOOL, 0xFFFF if word == "true" else 0)
     if one == "DECIMAL":
         digits, scale = word.split("e-")
-        return wire.scalar(wire.DECIMAL, (int(scale), 0x80 if digits.startswith("-") else 0, abs(int(digits))))
+        return wire.scalar(
+            wire.DECIMAL, (int(scale), 0x80 if digits.startswith("-") else 0, abs(int(digits)))
+        )
     return wire.scalar(getattr(wire, one), int(word))
 
 
 def becomes(row):
-    """The turns of a row: each answer is a put to a property of its type, which is read back where the value was taken."""
+    """The turns of a row: each answer is a put to a property of its type, which is read back where
+    the value was taken."""
     value, answers = row.split(" = ")
     one, word = value.split(" ")
     given = said_value(one, word)
@@ -89,7 +146,12 @@ class Values(Played):
     def test_values_of_each_type(self):
         for id, (word, zero, values) in enumerate(ROWS, 1):
             pairs = [value if isinstance(value, tuple) else (value, value) for value in values]
-            self.talk(f"values of {word}", VALUES, [gets(id, zero)] + [turn for given, kept in pairs for turn in (puts(id, given), gets(id, kept))])
+            self.talk(
+                f"values of {word}",
+                VALUES,
+                [gets(id, zero)]
+                + [turn for given, kept in pairs for turn in (puts(id, given), gets(id, kept))],
+            )
 
     def test_requests_that_are_refused(self):
         self.talk(
@@ -112,7 +174,12 @@ class Values(Played):
                 puts(TEXT, wire.scalar(wire.BSTR, LONGEST + b"a"), BAD_STUB),
                 # numbers of no type that a value has
                 *(
-                    puts(LONG, wire.changed(wire.changed(FOUR, 8, "H", vt), 16, "I", vt), BAD_VAR_TYPE, 0)
+                    puts(
+                        LONG,
+                        wire.changed(wire.changed(FOUR, 8, "H", vt), 16, "I", vt),
+                        BAD_VAR_TYPE,
+                        0,
+                    )
                     for vt in (4, 5, 7, 9, 12, 13, 15, 24, 25, 36, 0x2000, 0x4003)
                 ),
                 calls(NO_MEMBER, 4, [-3], [], MEMBER_NOT_FOUND),
@@ -131,10 +198,24 @@ class Values(Played):
     def test_an_object_too_many(self):
         objects = 65_536
         # that there is no such class goes before that there is no room
-        no_class = wire.line(3, struct.pack("<HH", 1, 0) + bytes.fromhex("443322116655887799aabbccddeeff02"))
-        made = run(["play", "lib.idl", "--hex"], (CREATE + b"\n") * (objects + 1) + no_class + CREATE + b"\n", files={"lib.idl": SMALL})[1].splitlines()
-        wanted = [(b"00000000ffffffff00000000%08x00000000" % int.from_bytes(number.to_bytes(4, "little"), "big")) for number in range(1, objects + 1)]
-        refusals = [wire.reply(1, code)[8:-1] for code in (E_UNEXPECTED, CLASS_NOT_REGISTERED, E_UNEXPECTED)]
+        no_class = wire.line(
+            3, struct.pack("<HH", 1, 0) + bytes.fromhex("443322116655887799aabbccddeeff02")
+        )
+        made = run(
+            ["play", "lib.idl", "--hex"],
+            (CREATE + b"\n") * (objects + 1) + no_class + CREATE + b"\n",
+            files={"lib.idl": SMALL},
+        )[1].splitlines()
+        wanted = [
+            (
+                b"00000000ffffffff00000000%08x00000000"
+                % int.from_bytes(number.to_bytes(4, "little"), "big")
+            )
+            for number in range(1, objects + 1)
+        ]
+        refusals = [
+            wire.reply(1, code)[8:-1] for code in (E_UNEXPECTED, CLASS_NOT_REGISTERED, E_UNEXPECTED)
+        ]
         self.tell("an object too many", [it[8:] for it in made] == wanted + refusals, made[-3:])
 
     def test_values_that_are_converted(self):
@@ -149,7 +230,11 @@ class Values(Played):
         self.talk(
             "values that are converted",
             FULL,
-            [turn for given, kept in converted for turn in (puts(FULL_COUNT, given), gets(FULL_COUNT, i4(kept)))]
+            [
+                turn
+                for given, kept in converted
+                for turn in (puts(FULL_COUNT, given), gets(FULL_COUNT, i4(kept)))
+            ]
             + [
                 puts(FULL_COUNT, i4(6)),
                 puts(FULL_COUNT, wire.scalar(wire.I8, 2_147_483_648), OVERFLOW, 0),
@@ -163,4 +248,8 @@ class Values(Played):
         )
 
     def test_values_that_become_others(self):
-        self.talk("values that become others", VALUES, [turn for row in rows_of("coercions.txt") for turn in becomes(row)])
+        self.talk(
+            "values that become others",
+            VALUES,
+            [turn for row in rows_of("coercions.txt") for turn in becomes(row)],
+        )

@@ -1,6 +1,6 @@
 """The words of the command line."""
-from running import CALLED, SMALL, Cases, run
-from stores import TWO
+from tests.support.running import CALLED, SMALL, Cases, run
+from tests.support.stores import TWO
 
 
 class Words(Cases):
@@ -22,7 +22,11 @@ class Words(Cases):
             ["help"],
         ):
             status, out, err = run(words, files={"lib.idl": SMALL})
-            self.tell(f"the words {words} are refused", (status, out, err.startswith(b"error: "), b"--help" in err) == (2, b"", True, True), (status, out, err))
+            self.tell(
+                f"the words {words} are refused",
+                (status, out, err.startswith(b"error: "), b"--help" in err) == (2, b"", True, True),
+                (status, out, err),
+            )
         for words in (
             ["format"],
             ["format", "it.store"],
@@ -44,7 +48,11 @@ class Words(Cases):
             ["dump", "--shared", "it.store"],
         ):
             status, out, err = run(words, files={"lib.idl": SMALL, "it.store": TWO})
-            self.tell(f"the words {words} are refused", (status, out, err.startswith(b"error: "), b"--help" in err) == (2, b"", True, True), (status, out, err))
+            self.tell(
+                f"the words {words} are refused",
+                (status, out, err.startswith(b"error: "), b"--help" in err) == (2, b"", True, True),
+                (status, out, err),
+            )
 
     def test_words_that_are_answered(self):
         for words, said in (
@@ -55,17 +63,27 @@ class Words(Cases):
             (["play", "--help"], b"\n      --shared  Read the records of many clients in frames"),
             (["serve", "--help"], b"--shared"),
             (["check", "--help"], b"Usage: " + CALLED + b" check [OPTIONS] <LIB>"),
-            (["check", "--help"], b"\n  oaut check examples/full.idl\n  oaut check --where - < examples/full.idl\n"),
+            (
+                ["check", "--help"],
+                b"\n  oaut check examples/full.idl\n  oaut check --where - < examples/full.idl\n",
+            ),
             (["--version"], b"oaut 0.2.0"),
         ):
             status, out, err = run(words)
-            self.tell(f"the words {words} are answered", (status, said in out, err) == (0, True, b""), (status, out, err))
+            self.tell(
+                f"the words {words} are answered",
+                (status, said in out, err) == (0, True, b""),
+                (status, out, err),
+            )
         for words, said in (
             (["--help"], b"\n  format"),
             (["--help"], b"\n  dump"),
             (["--help"], b"\n  upgrade"),
             (["format", "--help"], b"Usage: " + CALLED + b" format [OPTIONS] <STORE> <LIB>"),
-            (["format", "--help"], b"An existing file keeps its length, and its objects are erased"),
+            (
+                ["format", "--help"],
+                b"An existing file keeps its length, and its objects are erased",
+            ),
             (["format", "--help"], b"--bank <B>"),
             (["upgrade", "--help"], b"Usage: " + CALLED + b" upgrade [OPTIONS] <STORE>"),
             (["upgrade", "--help"], b"There is no conversion back."),
@@ -73,13 +91,28 @@ class Words(Cases):
             (["dump", "--help"], b"--library"),
         ):
             status, out, err = run(words)
-            self.tell(f"the words {words} are answered", (status, said in out, err) == (0, True, b""), (status, out, err))
+            self.tell(
+                f"the words {words} are answered",
+                (status, said in out, err) == (0, True, b""),
+                (status, out, err),
+            )
 
     def test_standard_output_takes_nothing(self):
         with open("/dev/full", "wb") as full:
             for words in (["--help"], ["--version"], ["play", "--help"], ["check", "--help"]):
-                self.case(f"the words {words}, and standard output takes nothing", words, 1, None, b"oaut: write fault\n", stdout=full)
+                self.case(
+                    f"the words {words}, and standard output takes nothing",
+                    words,
+                    1,
+                    None,
+                    b"oaut: write fault\n",
+                    stdout=full,
+                )
 
     def test_words_that_are_not_utf_8(self):
-        for words in ([b"check", b"\xff.idl"], [b"play", b"lib.idl", b"--hex\xc3"], [b"\xed\xa0\x80"]):
+        for words in (
+            [b"check", b"\xff.idl"],
+            [b"play", b"lib.idl", b"--hex\xc3"],
+            [b"\xed\xa0\x80"],
+        ):
             self.case(f"the words {words}", words, 2, b"", b"oaut: command line is not UTF-8\n")

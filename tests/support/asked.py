@@ -1,20 +1,34 @@
-"""Requests read from their bytes, by docs/reference/records.md and docs/reference/wire.md alone, and answered by the model: what the server has to reply to any
-body at all.
+"""Requests read from their bytes, by docs/reference/records.md and docs/reference/wire.md alone,
+and answered by the model: what the server has to reply to any body at all.
 
-`Answering().reply(body)` is the reply to a body, refused or not; its `model` has the objects that are there then.
+`Answering().reply(body)` is the reply to a body, refused or not; its `model` has the objects that
+are there then.
 """
 import struct
 import uuid
 
-import store
-import wire
-from codes import BAD_INDEX, BAD_STUB, BAD_VAR_TYPE, UNKNOWN_INTERFACE
-from model import BOOL, BSTR, DECIMAL, LIBRARY, SCALARS, VARIANT, Model, Refusal, first_library
-from model import Array as ArrayValue
-from wire import ARRAY, CELLS, oaut
-from worked import WIDER, wider_library
+from tests.support import store, wire
+from tests.support.codes import BAD_INDEX, BAD_STUB, BAD_VAR_TYPE, UNKNOWN_INTERFACE
+from tests.support.model import BOOL, BSTR, DECIMAL, LIBRARY, SCALARS, VARIANT
+from tests.support.model import Array as ArrayValue
+from tests.support.model import Model, Refusal, first_library
+from tests.support.wire import ARRAY, CELLS, oaut
+from tests.support.worked import WIDER, wider_library
 
-CREATE, RELEASE, GETIDS, INVOKE, GETELEM, PUTELEM, REDIM, LOCK, UNLOCK, TYPEINFO, LIST, REPLACE = range(1, 13)
+(
+    CREATE,
+    RELEASE,
+    GETIDS,
+    INVOKE,
+    GETELEM,
+    PUTELEM,
+    REDIM,
+    LOCK,
+    UNLOCK,
+    TYPEINFO,
+    LIST,
+    REPLACE,
+) = range(1, 13)
 CALLS = (INVOKE, GETELEM, PUTELEM, REDIM, LOCK, UNLOCK)
 # how many bytes a number of a type has on the wire, and how struct names it
 FORMS = {**store.NUMBERS, BOOL: "H"}
@@ -202,7 +216,8 @@ def indices(at):
 
 
 def values(fields):
-    """The values of fields. One that is broken goes before each whose type is bad, of which the first one is told."""
+    """The values of fields. One that is broken goes before each whose type is bad, of which the
+    first one is told."""
     found, bad = [], None
     for index, data in enumerate(fields):
         try:
@@ -213,7 +228,8 @@ def values(fields):
 
 
 class Answering:
-    """What a server replies, request by request. Of the texts of libraries it knows its own and a wider one: any other is taken for none."""
+    """What a server replies, request by request. Of the texts of libraries it knows its own and a
+    wider one: any other is taken for none."""
 
     def __init__(self):
         self.model = Model()
@@ -227,7 +243,16 @@ class Answering:
         except Broken:
             return struct.pack("<IIII", tag, BAD_STUB, oaut.NO_INDEX, 0)
         except Refusal as refusal:
-            return struct.pack("<IIII", tag, refusal.code, oaut.NO_INDEX if refusal.index is None else refusal.index, 0) + refusal.fields
+            return (
+                struct.pack(
+                    "<IIII",
+                    tag,
+                    refusal.code,
+                    oaut.NO_INDEX if refusal.index is None else refusal.index,
+                    0,
+                )
+                + refusal.fields
+            )
         return struct.pack("<IIII", tag, 0, oaut.NO_INDEX, 0) + fields
 
     def forget_locks(self):
@@ -300,18 +325,28 @@ class Answering:
 
 def parameter_of(it):
     default = None if it.default is None else wire.scalar(*it.default)
-    return wire.parameter(it.vt, 1 | 0x10 * it.optional | 0x20 * (it.default is not None), it.name, default)
+    return wire.parameter(
+        it.vt, 1 | 0x10 * it.optional | 0x20 * (it.default is not None), it.name, default
+    )
 
 
 def forms_of(dispid, member):
-    """The entries of a member: a property has one, or one for each of its forms where it has parameters."""
+    """The entries of a member: a property has one, or one for each of its forms where it has
+    parameters."""
     parameters = [parameter_of(it) for it in member.parameters]
     if member.is_plain():
         return [wire.member(dispid, 0, "put" not in member.forms, member.vt, member.name)]
     if member.method:
-        return [wire.member(dispid, 1, 0, VOID if member.vt is None else member.vt, member.name, parameters)]
+        return [
+            wire.member(
+                dispid, 1, 0, VOID if member.vt is None else member.vt, member.name, parameters
+            )
+        ]
     value = wire.parameter(member.vt, 1, "Value")
-    forms = {"get": wire.member(dispid, 2, 0, member.vt, member.name, parameters), "put": wire.member(dispid, 4, 0, VOID, member.name, [*parameters, value])}
+    forms = {
+        "get": wire.member(dispid, 2, 0, member.vt, member.name, parameters),
+        "put": wire.member(dispid, 4, 0, VOID, member.name, [*parameters, value]),
+    }
     return [forms[it] for it in ("get", "put") if it in member.forms]
 
 
@@ -320,11 +355,18 @@ def described(library, index):
     faces, classes = list(library.interfaces), list(library.classes)
     if index < len(faces):
         name, _ = library.interfaces[faces[index]]
-        return wire.interface(faces[index].bytes_le, name, [form for it in library.in_order(faces[index]) for form in forms_of(*it)])
+        return wire.interface(
+            faces[index].bytes_le,
+            name,
+            [form for it in library.in_order(faces[index]) for form in forms_of(*it)],
+        )
     if index >= len(faces) + len(classes):
         raise Refusal(BAD_INDEX)
     guid = classes[index - len(faces)]
     name, offered, default = library.classes[guid]
     return (
-        struct.pack("<II", 5, len(offered)) + guid.bytes_le + wire.string(name) + b"".join(struct.pack("<II", it == default, faces.index(it)) for it in offered)
+        struct.pack("<II", 5, len(offered))
+        + guid.bytes_le
+        + wire.string(name)
+        + b"".join(struct.pack("<II", it == default, faces.index(it)) for it in offered)
     )

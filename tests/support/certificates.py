@@ -25,7 +25,13 @@ _KEY = ["-newkey", "ec", "-pkeyopt", "ec_paramgen_curve:prime256v1", "-nodes"]
 
 
 def _openssl(*words):
-    subprocess.run(["openssl", *words], check=True, stdin=subprocess.DEVNULL, stdout=subprocess.DEVNULL, stderr=subprocess.PIPE)
+    subprocess.run(
+        ["openssl", *words],
+        check=True,
+        stdin=subprocess.DEVNULL,
+        stdout=subprocess.DEVNULL,
+        stderr=subprocess.PIPE,
+    )
 
 
 class Authority:
@@ -39,18 +45,53 @@ class Authority:
             file.write(_CONFIG.format(room=room, name=name))
         with open(f"{room}/{name}.index", "w"):
             pass
-        words = ["req", "-x509", "-config", self._config, "-extensions", "authority", *_KEY, "-days", "3650", "-subj", f"/CN={name}"]
+        words = [
+            "req",
+            "-x509",
+            "-config",
+            self._config,
+            "-extensions",
+            "authority",
+            *_KEY,
+            "-days",
+            "3650",
+            "-subj",
+            f"/CN={name}",
+        ]
         _openssl(*words, "-keyout", f"{room}/{name}.key", "-out", self.path)
 
     def signed(self, name, *names, begin="20200101000000Z", end="20991231235959Z"):
-        """The paths of a certificate and of its key, whose name is `name`: of a server with these names, or else of a client."""
+        """The paths of a certificate and of its key, whose name is `name`: of a server with these
+        names, or else of a client."""
         stem = f"{self.room}/{name}-{self.name}"
-        words = ["req", "-new", *_KEY, "-subj", f"/CN={name}", "-keyout", f"{stem}.key", "-out", f"{stem}.csr"]
+        words = [
+            "req",
+            "-new",
+            *_KEY,
+            "-subj",
+            f"/CN={name}",
+            "-keyout",
+            f"{stem}.key",
+            "-out",
+            f"{stem}.csr",
+        ]
         if names:
-            told = ",".join(f"IP:{it}" if it.replace(".", "").isdigit() else f"DNS:{it}" for it in names)
+            told = ",".join(
+                f"IP:{it}" if it.replace(".", "").isdigit() else f"DNS:{it}" for it in names
+            )
             words += ["-addext", f"subjectAltName={told}"]
         _openssl(*words)
-        words = ["ca", "-batch", "-notext", "-config", self._config, "-in", f"{stem}.csr", "-out", f"{stem}.crt"]
+        words = [
+            "ca",
+            "-batch",
+            "-notext",
+            "-config",
+            self._config,
+            "-in",
+            f"{stem}.csr",
+            "-out",
+            f"{stem}.crt",
+        ]
         _openssl(*words, "-startdate", begin, "-enddate", end)
         return f"{stem}.crt", f"{stem}.key"
 

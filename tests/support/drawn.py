@@ -3,10 +3,24 @@ import random
 import struct
 import uuid
 
-import wire
-from codes import BAD_STUB
-from kept import changed
-from model import (
+from oaut import (
+    CELLS,
+    GETELEM,
+    LOCK,
+    PUTELEM,
+    REDIM,
+    UNLOCK,
+    ask_call,
+    ask_create,
+    ask_ids,
+    ask_list,
+    ask_release,
+    ask_type_info,
+)
+from tests.support import wire
+from tests.support.codes import BAD_STUB
+from tests.support.kept import changed
+from tests.support.model import (
     ARRAY,
     BOOL,
     BSTR,
@@ -29,8 +43,7 @@ from model import (
     Refusal,
     field,
 )
-from oaut import CELLS, GETELEM, LOCK, PUTELEM, REDIM, UNLOCK, ask_call, ask_create, ask_ids, ask_list, ask_release, ask_type_info
-from wire import oaut
+from tests.support.wire import oaut
 
 
 class Session:
@@ -44,18 +57,35 @@ class Session:
         vt = dice.choice(SCALARS) if vt is None else vt
         if vt in RANGES:
             low, high = RANGES[vt]
-            edges = [low, high, 0, 1, max(low, -1), min(high, 40_000), min(high, 25_000), min(high, 35_000), max(low, -25_000)]
+            edges = [
+                low,
+                high,
+                0,
+                1,
+                max(low, -1),
+                min(high, 40_000),
+                min(high, 25_000),
+                min(high, 35_000),
+                max(low, -25_000),
+            ]
             return vt, dice.choice(edges) if dice.random() < 0.6 else dice.randint(low, high)
         if vt == BSTR:
             return vt, dice.choice([None, b"", b"k\0", b"x\0y\0", b"abc", "Ω".encode("utf-16-le")])
         if vt == DECIMAL:
-            return vt, (dice.choice([0, 1, 4, 5, 28]), dice.choice([0, 0x80]), dice.choice([0, 5, 15, 25, 12_345, 2**64, 2**96 - 1]))
+            return vt, (
+                dice.choice([0, 1, 4, 5, 28]),
+                dice.choice([0, 0x80]),
+                dice.choice([0, 5, 15, 25, 12_345, 2**64, 2**96 - 1]),
+            )
         return vt, {BOOL: dice.choice([0, 0xFFFF]), ERROR: dice.choice([0x8002_0004, 5])}.get(vt)
 
     def array(self, vt=None):
         dice = self.dice
         vt = dice.choice(sorted(CELLS)) if vt is None else vt
-        bounds = [(dice.choice([0, 1, 2, 2, 3]), dice.choice([0, 0, 1, -1, 5])) for _ in range(dice.choice([1, 1, 2, 3]))]
+        bounds = [
+            (dice.choice([0, 1, 2, 2, 3]), dice.choice([0, 0, 1, -1, 5]))
+            for _ in range(dice.choice([1, 1, 2, 3]))
+        ]
         if dice.random() < 0.05:
             bounds = [(2, 2_147_483_647)]
         count = 1
@@ -75,19 +105,43 @@ class Session:
         return self.array() if roll > 0.95 else self.scalar()
 
     def call(self, put=False, arrays=False):
-        """A call of a property, most often of one that is there; with `arrays` of one that holds an array."""
+        """A call of a property, most often of one that is there; with `arrays` of one that holds an
+        array."""
         dice = self.dice
         known = sorted(self.model.objects)
-        of = dice.choice(known) if known and dice.random() < 0.97 else dice.choice([0, 77, self.model.next])
+        of = (
+            dice.choice(known)
+            if known and dice.random() < 0.97
+            else dice.choice([0, 77, self.model.next])
+        )
         library = self.model.library
-        offered = library.offered(self.model.objects[of][0]) if of in self.model.objects else [FIRST_ONE]
-        guid = dice.choice([uuid.UUID(int=0), *offered, *offered]) if dice.random() < 0.97 else dice.choice([ITEM, FIRST_ONE])
+        offered = (
+            library.offered(self.model.objects[of][0]) if of in self.model.objects else [FIRST_ONE]
+        )
+        guid = (
+            dice.choice([uuid.UUID(int=0), *offered, *offered])
+            if dice.random() < 0.97
+            else dice.choice([ITEM, FIRST_ONE])
+        )
         members = library.members(guid if guid in offered else offered[0])
-        fitting = [it for it in sorted(members) if arrays and members[it].vt is not None and (members[it].vt & ARRAY or members[it].vt == VARIANT)]
-        dispid = dice.choice(fitting if fitting and dice.random() < 0.85 else sorted(members)) if dice.random() < 0.97 else dice.choice([0, 99, -3])
+        fitting = [
+            it
+            for it in sorted(members)
+            if arrays
+            and members[it].vt is not None
+            and (members[it].vt & ARRAY or members[it].vt == VARIANT)
+        ]
+        dispid = (
+            dice.choice(fitting if fitting and dice.random() < 0.85 else sorted(members))
+            if dice.random() < 0.97
+            else dice.choice([0, 99, -3])
+        )
         member = members.get(dispid) or next(iter(members.values()))
         arguments = [self.value(it.vt) for it in member.parameters]
-        arguments = [MISSING if it.optional and dice.random() < 0.2 else one for it, one in zip(member.parameters, arguments)]
+        arguments = [
+            MISSING if it.optional and dice.random() < 0.2 else one
+            for it, one in zip(member.parameters, arguments)
+        ]
         while arguments and member.parameters[len(arguments) - 1].optional and dice.random() < 0.3:
             arguments.pop()
         if dice.random() < 0.05:
@@ -110,14 +164,25 @@ class Session:
             "interface": guid,
             "riid": dice.random() < 0.01,
             "dispid": dispid,
-            "flags": dice.choice([4, 4, 4, 12, 5, 6] if put else [2, 2, 2, 2, 2, 3, dice.choice([0, 1, 8])]),
+            "flags": dice.choice(
+                [4, 4, 4, 12, 5, 6] if put else [2, 2, 2, 2, 2, 3, dice.choice([0, 1, 8])]
+            ),
             "named": [it for it, _ in named],
             "arguments": [it for _, it in named] + arguments[:split][::-1],
         }
 
     def bytes_of(self, opcode, call):
         fields = [field(it) for it in call["arguments"]]
-        out = ask_call(opcode, call["object"], call["dispid"], call["flags"], call["named"], fields, call["interface"].bytes_le, self.dice.choice([0, 1033]))
+        out = ask_call(
+            opcode,
+            call["object"],
+            call["dispid"],
+            call["flags"],
+            call["named"],
+            fields,
+            call["interface"].bytes_le,
+            self.dice.choice([0, 1033]),
+        )
         return wire.changed(out, 28, "B", 1) if call["riid"] else out
 
     def indices(self, call):
@@ -155,8 +220,19 @@ class Session:
         if roll < 0.08:
             return ask_list(), model.listing
         if roll < 0.10:
-            names = dice.choice([["cELL", "KEY", "none"], ["none", "Key"], ["Cell", "Page"], ["Count"], ["Sums", "key"], ["Grid", "Grid"]])
-            of, guid = dice.choice([*model.objects, 77]), dice.choice([uuid.UUID(int=0), *model.library.interfaces, ITEM])
+            names = dice.choice(
+                [
+                    ["cELL", "KEY", "none"],
+                    ["none", "Key"],
+                    ["Cell", "Page"],
+                    ["Count"],
+                    ["Sums", "key"],
+                    ["Grid", "Grid"],
+                ]
+            )
+            of, guid = dice.choice([*model.objects, 77]), dice.choice(
+                [uuid.UUID(int=0), *model.library.interfaces, ITEM]
+            )
             return ask_ids(of, names, guid.bytes_le), lambda: model.ids(of, guid, names)
         if roll < 0.11:
             count = len(model.library.interfaces) + len(model.library.classes)
@@ -170,15 +246,21 @@ class Session:
             return self.bytes_of(oaut.INVOKE, call), lambda: model.invoke(call)
         if roll < 0.75:
             indices = self.indices(call)
-            return self.bytes_of(GETELEM, call) + oaut.indices_field(indices), lambda: model.get_element(call, indices)
+            return self.bytes_of(GETELEM, call) + oaut.indices_field(
+                indices
+            ), lambda: model.get_element(call, indices)
         if roll < 0.85:
-            indices, value = self.indices(call), self.value(dice.choice([I2, VARIANT, BSTR, CY, I4]))
-            return self.bytes_of(PUTELEM, call) + oaut.indices_field(indices) + oaut.variant_field(field(value)), lambda: model.put_element(
-                call, indices, value
+            indices, value = self.indices(call), self.value(
+                dice.choice([I2, VARIANT, BSTR, CY, I4])
             )
+            return self.bytes_of(PUTELEM, call) + oaut.indices_field(indices) + oaut.variant_field(
+                field(value)
+            ), lambda: model.put_element(call, indices, value)
         if roll < 0.91:
             bound = (dice.choice([0, 1, 2, 3, 65_537]), dice.choice([0, -1, 10, 2_147_483_647]))
-            return self.bytes_of(REDIM, call) + struct.pack("<Ii", *bound), lambda: model.redim(call, bound)
+            return self.bytes_of(REDIM, call) + struct.pack("<Ii", *bound), lambda: model.redim(
+                call, bound
+            )
         if roll < 0.95:
             return self.bytes_of(LOCK, call), lambda: model.lock(call, 1)
         return self.bytes_of(UNLOCK, call), lambda: model.lock(call, -1)
@@ -189,10 +271,22 @@ class Session:
         library = changed(model.library, dice)
         text = library.text()
         if dice.random() < 0.5:
-            text = b"// another one\n" + text.replace(b";\n", b" ; /* \xc3\xa9 */\n").replace(b"[uuid(", b'[ helpstring("it"), uuid(')
+            text = b"// another one\n" + text.replace(b";\n", b" ; /* \xc3\xa9 */\n").replace(
+                b"[uuid(", b'[ helpstring("it"), uuid('
+            )
         if dice.random() < 0.1:
-            library, text = None, dice.choice([text[:-3], text + b"}", text + b"// \xff", b"", text.replace(b"library", b"Library")])
-        return struct.pack("<HHII", 12, 0, len(text), 0) + wire.aligned(text, 8), lambda: model.replace(library)
+            library, text = None, dice.choice(
+                [
+                    text[:-3],
+                    text + b"}",
+                    text + b"// \xff",
+                    b"",
+                    text.replace(b"library", b"Library"),
+                ]
+            )
+        return struct.pack("<HHII", 12, 0, len(text), 0) + wire.aligned(
+            text, 8
+        ), lambda: model.replace(library)
 
     def turn(self, tag):
         """A body and the reply to it."""
@@ -202,14 +296,28 @@ class Session:
         if spoil < 0.03:
             cut = body[: self.dice.randrange(len(body))] if spoil < 0.02 else body + bytes(8)
             if cut:
-                return cut, struct.pack("<IIII", tag if len(cut) >= 8 else 0, BAD_STUB, oaut.NO_INDEX, 0)
+                return cut, struct.pack(
+                    "<IIII", tag if len(cut) >= 8 else 0, BAD_STUB, oaut.NO_INDEX, 0
+                )
         opcode = struct.pack("<H", self.dice.choice([0, 12, 99])) if spoil > 0.99 else body[4:6]
         if opcode != body[4:6]:
-            return body[:4] + opcode + body[6:], struct.pack("<IIII", tag, BAD_STUB, oaut.NO_INDEX, 0)
+            return body[:4] + opcode + body[6:], struct.pack(
+                "<IIII", tag, BAD_STUB, oaut.NO_INDEX, 0
+            )
         try:
             fields = act()
         except Refusal as refusal:
-            return body, struct.pack("<IIII", tag, refusal.code, oaut.NO_INDEX if refusal.index is None else refusal.index, 0) + refusal.fields
+            return (
+                body,
+                struct.pack(
+                    "<IIII",
+                    tag,
+                    refusal.code,
+                    oaut.NO_INDEX if refusal.index is None else refusal.index,
+                    0,
+                )
+                + refusal.fields,
+            )
         return body, struct.pack("<IIII", tag, 0, oaut.NO_INDEX, 0) + fields
 
 
@@ -217,7 +325,9 @@ class Large(Session):
     """Requests with long texts, until the objects are as large as they may be."""
 
     def text(self):
-        return BSTR, b"n" * self.dice.choice([1_048_576, 1_048_576, 1_048_576, 1_048_576, self.dice.randrange(1_048_577), 0])
+        return BSTR, b"n" * self.dice.choice(
+            [1_048_576, 1_048_576, 1_048_576, 1_048_576, self.dice.randrange(1_048_577), 0]
+        )
 
     def request(self):
         dice, model = self.dice, self.model
@@ -228,16 +338,26 @@ class Large(Session):
         if roll > 0.94:
             return super().request()
         of = dice.choice(known[-3:] if dice.random() < 0.6 else known)
-        call = {"object": of, "interface": FIRST_ONE, "riid": False, "dispid": 2, "flags": 4, "named": [-3], "arguments": [self.text()]}
+        call = {
+            "object": of,
+            "interface": FIRST_ONE,
+            "riid": False,
+            "dispid": 2,
+            "flags": 4,
+            "named": [-3],
+            "arguments": [self.text()],
+        }
         if roll > 0.4 or model.objects[of][0] == PLAIN:
             texts = [self.text() for _ in range(dice.choice([0, 1, 2, 3, 3]))]
-            call.update(interface=SECOND, dispid=3, arguments=[Array(BSTR, [(len(texts), 0)], texts)])
+            call.update(
+                interface=SECOND, dispid=3, arguments=[Array(BSTR, [(len(texts), 0)], texts)]
+            )
         if roll > 0.82:
             indices, value = [dice.choice([0, 1, 2])], self.text()
             call.update(interface=SECOND, dispid=3, named=[], arguments=[])
-            return self.bytes_of(PUTELEM, call) + oaut.indices_field(indices) + oaut.variant_field(field(value)), lambda: model.put_element(
-                call, indices, value
-            )
+            return self.bytes_of(PUTELEM, call) + oaut.indices_field(indices) + oaut.variant_field(
+                field(value)
+            ), lambda: model.put_element(call, indices, value)
         return self.bytes_of(oaut.INVOKE, call), lambda: model.invoke(call)
 
 

@@ -1,12 +1,17 @@
-#!/usr/bin/env python3
-"""Random bytes for the program, from seeds: records, frames of many clients, libraries and stores that are good ones changed at some places.
+"""Random bytes for the program, from seeds: records, frames of many clients, libraries and stores
+that are good ones changed at some places.
 
-    python3 tests/support/fuzz.py [--program PATH] [--seconds N] [--seed S] [records] [frames] [libraries] [stores]
+    python3 -m tests.support.fuzz [--program PATH] [--seconds N] [--seed S] [records] [frames]
+        [libraries] [stores]
 
-PATH is crates/oaut/out/oaut where none is given. Each of the parts takes N seconds, 20 where nothing is said. Each reply to a record is compared with that of the model, which reads the
-bytes by the documents alone (tests/support/asked.py). `check` gives each text the same answer twice: a library that is its own canonical text, or a place inside the text. `dump` and `serve` say of
-each store what tests/support/store.py says, which shares no code with the program, within a second and 64 MiB, and leave its file as it was.
-The last line counts what was tried, and the status is 1 where one differs. `tools/cases.py fuzz` runs the same as cases.
+PATH is crates/oaut/out/oaut where none is given. Each of the parts takes N seconds, 20 where
+nothing is said. Each reply to a record is compared with that of the model, which reads the bytes by
+the documents alone (tests/support/asked.py). `check` gives each text the same answer twice: a
+library that is its own canonical text, or a place inside the text. `dump` and `serve` say of each
+store what tests/support/store.py says, which shares no code with the program, within a second and
+64 MiB, and leave its file as it was.
+The last line counts what was tried, and the status is 1 where one differs. `tools/cases.py fuzz`
+runs the same as cases.
 """
 import argparse
 import os
@@ -17,7 +22,9 @@ import sys
 import time
 
 if __name__ == "__main__":
-    parser = argparse.ArgumentParser(description=__doc__, formatter_class=argparse.RawDescriptionHelpFormatter)
+    parser = argparse.ArgumentParser(
+        description=__doc__, formatter_class=argparse.RawDescriptionHelpFormatter
+    )
     parser.add_argument("--program", metavar="PATH")
     parser.add_argument("--seconds", metavar="N", type=float, default=20)
     parser.add_argument("--seed", metavar="S", type=int, default=1)
@@ -26,18 +33,38 @@ if __name__ == "__main__":
     if given.program:
         os.environ["OAUT_PROGRAM"] = given.program
 
-from wire import oaut
-import store
-import worked
-import sharing
-from asked import Answering
-from drawn import Session
-from due import replies_of
-from model import LIBRARY, VARIANT, first_library
-from preloaded import StoreFile, fast_folder, read, spawned
-from running import PROGRAM, fault, fill, rows_of, run_in, text_of
+from tests.support import sharing, store, worked
+from tests.support.asked import Answering
+from tests.support.drawn import Session
+from tests.support.due import replies_of
+from tests.support.model import LIBRARY, VARIANT, first_library
+from tests.support.preloaded import StoreFile, fast_folder, read, spawned
+from tests.support.running import PROGRAM, fault, fill, rows_of, run_in, text_of
+from tests.support.wire import oaut
 
-NUMBERS = (0, 1, 2, 3, 7, 8, 16, 17, 32, 33, 255, 256, 65_535, 65_536, 65_537, 1_048_576, 1_048_577, 2**31 - 1, 2**31, 2**32 - 2, 2**32 - 1)
+NUMBERS = (
+    0,
+    1,
+    2,
+    3,
+    7,
+    8,
+    16,
+    17,
+    32,
+    33,
+    255,
+    256,
+    65_535,
+    65_536,
+    65_537,
+    1_048_576,
+    1_048_577,
+    2**31 - 1,
+    2**31,
+    2**32 - 2,
+    2**32 - 1,
+)
 
 
 class Dice(random.Random):
@@ -68,7 +95,11 @@ class Dice(random.Random):
         elif kind == 6:
             del data[at : at + self.choice((1, 2, 4, 8, self.randrange(1, 64)))]
         elif kind == 7:
-            data[at:at] = bytes(self.choice((1, 2, 4, 8))) if self.random() < 0.5 else self.randbytes(self.randrange(1, 17))
+            data[at:at] = (
+                bytes(self.choice((1, 2, 4, 8)))
+                if self.random() < 0.5
+                else self.randbytes(self.randrange(1, 17))
+            )
         elif kind == 8:
             end = min(len(data), at + self.randrange(1, 65))
             data[at:at] = data[at:end]
@@ -76,7 +107,9 @@ class Dice(random.Random):
             other = self.choice(others)
             start = self.randrange(len(other) + 1) // 4 * 4
             place = at // 4 * 4
-            data[place : place + self.choice((0, 4, 16, 64))] = other[start : start + self.choice((4, 8, 16, 32, 64, 200))]
+            data[place : place + self.choice((0, 4, 16, 64))] = other[
+                start : start + self.choice((4, 8, 16, 32, 64, 200))
+            ]
         return bytes(data)
 
 
@@ -90,7 +123,10 @@ class Found:
         self.kinds[name] = self.kinds.get(name, 0) + 1
 
     def __str__(self):
-        kinds = ", ".join(f"{name} {count}" for name, count in sorted(self.kinds.items(), key=lambda it: -it[1])[:8])
+        kinds = ", ".join(
+            f"{name} {count}"
+            for name, count in sorted(self.kinds.items(), key=lambda it: -it[1])[:8]
+        )
         return f"{self.tried} {self.what} in {self.runs} runs ({kinds}): {len(self.differ)} differ"
 
 
@@ -103,11 +139,16 @@ REQUESTS = 1_000  # of one session
 
 def may_replace(body):
     """Whether a body may bring a library that the model does not know."""
-    return len(body) > 40 and struct.unpack_from("<H", body, 4)[0] == 12 and body[16:].rstrip(b"\0") not in (LIBRARY, worked.WIDER, worked.NO_LIBRARY)
+    return (
+        len(body) > 40
+        and struct.unpack_from("<H", body, 4)[0] == 12
+        and body[16:].rstrip(b"\0") not in (LIBRARY, worked.WIDER, worked.NO_LIBRARY)
+    )
 
 
 def bodies(dice, answering):
-    """A session of requests, of which most are changed at some places, and their replies by the model."""
+    """A session of requests, of which most are changed at some places, and their replies by the
+    model."""
     session = Session(dice.getrandbits(32))
     session.model = answering.model
     known = [*worked.ALL, *worked.EVERY_TYPE, *worked.REPLACED]
@@ -138,7 +179,8 @@ def records(room, seconds, seed, most=5, least=0):
             found.kind(f"{struct.unpack_from('<I', wanted, 4)[0]:08x}")
             if place >= len(got) or got[place] != wanted:
                 found.differ.append(
-                    f"seed {seed}, record {place + 1}, {body.hex()}: due {wanted.hex()}, got {got[place].hex() if place < len(got) else None}, {status, err}"
+                    f"seed {seed}, record {place + 1}, {body.hex()}: due {wanted.hex()}, got "
+                    f"{got[place].hex() if place < len(got) else None}, {status, err}"
                 )
                 break
         else:
@@ -154,7 +196,8 @@ CLIENTS = (0, 1, 2, 7, 2**31, 2**32 - 2)
 
 
 def stream(dice, shared):
-    """Frames of several clients, and what is told of them before the input ends. Their requests come in parts; clients end, within a record too, and come again; at the end there may be half a
+    """Frames of several clients, and what is told of them before the input ends. Their requests
+    come in parts; clients end, within a record too, and come again; at the end there may be half a
     frame, or a head that says nothing."""
     given, told, left = bytearray(), [], {it: b"" for it in CLIENTS}
 
@@ -164,7 +207,13 @@ def stream(dice, shared):
 
     for body in bodies(dice, shared.answering):
         client = dice.choice(CLIENTS)
-        left[client] += struct.pack("<I", len(body) if dice.random() < 0.995 else dice.choice((0, 4_194_305, 2**32 - 1))) + body
+        left[client] += (
+            struct.pack(
+                "<I",
+                len(body) if dice.random() < 0.995 else dice.choice((0, 4_194_305, 2**32 - 1)),
+            )
+            + body
+        )
         while dice.random() < 0.8:
             client = dice.choice(CLIENTS)
             count = dice.choice((1, 3, 4, 5, 8, len(left[client]), len(left[client])))
@@ -179,7 +228,13 @@ def stream(dice, shared):
     if dice.random() < 0.3:
         goes(
             dice.choice(
-                (b"\1", oaut.frames.head(7, 9), oaut.frames.head(7, 1_048_577), oaut.frames.head(2**32 - 1, 1) + b"\0", oaut.frames.head(0, 9) + b"\0\0")
+                (
+                    b"\1",
+                    oaut.frames.head(7, 9),
+                    oaut.frames.head(7, 1_048_577),
+                    oaut.frames.head(2**32 - 1, 1) + b"\0",
+                    oaut.frames.head(0, 9) + b"\0\0",
+                )
             )
         )
     return bytes(given), told
@@ -195,7 +250,14 @@ def frames(room, seconds, seed, most=5, least=0):
         words = ["play", "--shared", f"{room}/lib.idl"]
         if dice.random() < 0.5:
             run_in(room, ["format", "it.store", "lib.idl"])
-            words = ["serve", "--shared", "it.store", "lib.idl", "--group", dice.choice(("1", "2", "7", "1024"))]
+            words = [
+                "serve",
+                "--shared",
+                "it.store",
+                "lib.idl",
+                "--group",
+                dice.choice(("1", "2", "7", "1024")),
+            ]
         wrong = differing(run_in(room, words, given), shared, due)
         for _, reply in due:
             found.kind(f"{struct.unpack_from('<I', reply, 8)[0]:08x}" if reply else "end")
@@ -214,7 +276,10 @@ def differing(got, shared, due):
         told = sharing.told_of(out)
     except ValueError as fault:
         return str(fault)
-    place = next((at for at, (one, other) in enumerate(zip(due, told)) if one != other), min(len(due), len(told)))
+    place = next(
+        (at for at, (one, other) in enumerate(zip(due, told)) if one != other),
+        min(len(due), len(told)),
+    )
     at = lambda them: (them[place][0], them[place][1].hex()) if place < len(them) else None
     return None if due == told else f"what is told {place + 1}th: due {at(due)}, got {at(told)}"
 
@@ -223,13 +288,19 @@ def differing(got, shared, due):
 
 WORDS = [
     it.encode()
-    for it in '[ ] ( ) { } , ; : . - id uuid version helpstring library importlib dispinterface interface coclass properties methods void unsigned SAFEARRAY long short char BSTR VARIANT VARIANT_BOOL CURRENCY DECIMAL SCODE hyper int readonly propget propput in optional defaultvalue default TRUE FALSE -1 0x 0xFFFFFFFF 4294967296 79228162514264337593543950336 "a" " /* // */ \\ \t \r \x00 \xff é Count COUNT DItem Item 11223344-5566-7788-99AA-BBCCDDEEFF02'.split(
-        " "
-    )
+    for it in "[ ] ( ) { } , ; : . - id uuid version helpstring library importlib dispinterface "
+    "interface coclass properties methods void unsigned SAFEARRAY long short char BSTR "
+    "VARIANT VARIANT_BOOL CURRENCY DECIMAL SCODE hyper int readonly propget propput in "
+    "optional defaultvalue default TRUE FALSE -1 0x 0xFFFFFFFF 4294967296 "
+    '79228162514264337593543950336 "a" " /* // */ \\ \t \r \x00 \xff é Count COUNT '
+    "DItem Item 11223344-5566-7788-99AA-BBCCDDEEFF02".split(" ")
 ]
 TOKEN = re.compile(rb"[A-Za-z_][A-Za-z_0-9]*|[0-9]+|\s+|.", re.DOTALL)
 FAULT = re.compile(
-    rb"oaut: (syntax at byte (\d+)|limit (text|name|interfaces|coclasses|members|params)|(duplicate name|duplicate id|get and put disagree|array parameter|bad default|unknown interface) \w+|duplicate guid [0-9a-f-]{36}|library is not UTF-8)\n"
+    rb"oaut: (syntax at byte (\d+)|limit "
+    rb"(text|name|interfaces|coclasses|members|params)|(duplicate name|duplicate id|get and put "
+    rb"disagree|array parameter|bad default|unknown interface) \w+|duplicate guid "
+    rb"[0-9a-f-]{36}|library is not UTF-8)\n"
 )
 
 
@@ -266,7 +337,20 @@ def spoiled_text(dice, text, texts):
 
 def known_texts():
     rows = [row[2:].encode() for row in rows_of("descriptions.txt") if row.startswith("= ")]
-    return [LIBRARY, *(text_of(name) for name in ("small.idl", "full.idl", "arrays.idl", "counters.idl", "full.canonical.idl")), *rows]
+    return [
+        LIBRARY,
+        *(
+            text_of(name)
+            for name in (
+                "small.idl",
+                "full.idl",
+                "arrays.idl",
+                "counters.idl",
+                "full.canonical.idl",
+            )
+        ),
+        *rows,
+    ]
 
 
 def checked(room, content, words=()):
@@ -277,12 +361,18 @@ def checked(room, content, words=()):
 
 
 def judged_text(room, content):
-    """What kind of text it is, and what is wrong with what `check` says of it: None where nothing is."""
+    """What kind of text it is, and what is wrong with what `check` says of it: None where nothing
+    is."""
     status, told, said = checked(room, content)
     if checked(room, content) != (status, told, said):
         return "a text", "another answer the second time"
     if status == 0:
-        return "a library", "what was printed is not its own canonical text" if said or checked(room, told) != (0, told, b"") else None
+        return (
+            "a library",
+            "what was printed is not its own canonical text"
+            if said or checked(room, told) != (0, told, b"")
+            else None,
+        )
     fault_ = FAULT.fullmatch(said)
     if status != 2 or told or fault_ is None:
         return "a text", f"{status, told[:200], said[:200]}"
@@ -290,7 +380,12 @@ def judged_text(room, content):
     if fault_[2] and int(fault_[2]) > len(content):
         return kind, f"a place outside of the text, {said}"
     placed = checked(room, content, ["--where"])
-    return kind, f"--where tells {placed}" if placed[0] != 2 or placed[1] or not placed[2].startswith(said) else None
+    return (
+        kind,
+        f"--where tells {placed}"
+        if placed[0] != 2 or placed[1] or not placed[2].startswith(said)
+        else None,
+    )
 
 
 def libraries(room, seconds, seed, most=5, least=0):
@@ -325,10 +420,17 @@ def fits(found):
     for guid, cells in found.objects.values():
         for (interface, dispid, key), value in cells.items():
             member = MEMBERS.get(interface, {}).get(dispid)
-            if interface not in CLASS_OF.get(guid, ()) or member is None or member.method or len(key) != len(member.parameters):
+            if (
+                interface not in CLASS_OF.get(guid, ())
+                or member is None
+                or member.method
+                or len(key) != len(member.parameters)
+            ):
                 return False
             vt = value.vt + oaut.ARRAY if isinstance(value, store.Array) else value[0]
-            if not is_of(vt, member.vt) or not all(is_of(it[0], parameter.vt) for it, parameter in zip(key, member.parameters)):
+            if not is_of(vt, member.vt) or not all(
+                is_of(it[0], parameter.vt) for it, parameter in zip(key, member.parameters)
+            ):
                 return False
         if guid not in CLASS_OF:
             return False
@@ -362,28 +464,45 @@ def dumped(data):
 
 def groups_of(data, found):
     """The events of each group."""
-    return [data[it.place + 5 : it.place + 5 + struct.unpack_from("<I", data, it.place + 1)[0]] for it in found.groups]
+    return [
+        data[it.place + 5 : it.place + 5 + struct.unpack_from("<I", data, it.place + 1)[0]]
+        for it in found.groups
+    ]
 
 
 def known_stores(room):
-    """Stores that the program has made by sessions, in one bank or the other, and one of format 1; and the canonical text of their library."""
+    """Stores that the program has made by sessions, in one bank or the other, and one of format 1;
+    and the canonical text of their library."""
     fill(room, {"lib.idl": LIBRARY})
     with open(f"{room}/it.store", "wb") as file:
         file.truncate(store.length_of(store.BANK))
     run_in(room, ["format", "it.store", "lib.idl"])
-    parts = ([*worked.CREATED, *worked.SCALAR_PROPERTIES, *worked.PARAMETERS], worked.ARRAYS, [*worked.NEVER_PUT, *worked.GOES])
+    parts = (
+        [*worked.CREATED, *worked.SCALAR_PROPERTIES, *worked.PARAMETERS],
+        worked.ARRAYS,
+        [*worked.NEVER_PUT, *worked.GOES],
+    )
     for part, group in zip(parts, ("3", "1", "1024")):
-        run_in(room, ["serve", "it.store", "lib.idl", "--group", group], oaut.Raw.pack([bytes(4) + it for it in part]))
+        run_in(
+            room,
+            ["serve", "it.store", "lib.idl", "--group", group],
+            oaut.Raw.pack([bytes(4) + it for it in part]),
+        )
     made = read(f"{room}/it.store")
     found = store.read(made)
     events = groups_of(made, found)
-    settled = store.add(store.settled(store.add(store.formatted(found.library), *events[:9])), *events[9:])
+    settled = store.add(
+        store.settled(store.add(store.formatted(found.library), *events[:9])), *events[9:]
+    )
     old = store.add(store.formatted_before(found.library), *events)
-    return [(StoreFile(f"{room}/it.store", it), layout_of(it)) for it in (made, settled, old)], found.library
+    return [
+        (StoreFile(f"{room}/it.store", it), layout_of(it)) for it in (made, settled, old)
+    ], found.library
 
 
 def layout_of(data):
-    """Where the parts of a store stand: head, library, snapshot and groups, and the events of the groups."""
+    """Where the parts of a store stand: head, library, snapshot and groups, and the events of the
+    groups."""
     found = store.read(data)
     form, library, snapshot, bank = store.told(data, store.HEADS[found.chosen])
     body = store.body_of(form, found.chosen, bank)
@@ -424,7 +543,19 @@ def spoil_store(dice, file, layout):
         )
         if part == "length":
             with open(file.path, "r+b") as opened_:
-                opened_.truncate(dice.choice((0, 100, store.LEAST - 1, store.LEAST, file.length - 1, file.length - 4_096, file.length + 9)))
+                opened_.truncate(
+                    dice.choice(
+                        (
+                            0,
+                            100,
+                            store.LEAST - 1,
+                            store.LEAST,
+                            file.length - 1,
+                            file.length - 4_096,
+                            file.length + 9,
+                        )
+                    )
+                )
             continue
         place, some = layout[part]
         if part == "events":
@@ -432,7 +563,9 @@ def spoil_store(dice, file, layout):
             for _ in range(dice.choice((1, 1, 2)) if some else 0):
                 at = dice.randrange(len(some))
                 some[at] = dice.spoil(some[at], some)
-            file.change(place, b"".join(b"\1" + struct.pack("<I", len(it)) + it for it in some) + b"\0")
+            file.change(
+                place, b"".join(b"\1" + struct.pack("<I", len(it)) + it for it in some) + b"\0"
+            )
         elif part == "image":  # a snapshot that was changed, and its length
             form, library, body, bank = some
             image = dice.spoil(layout["snapshot"][1])
@@ -445,7 +578,8 @@ def spoil_store(dice, file, layout):
 
 
 def judged_store(room, file, library):
-    """Why a store's file is refused by `serve`, and what is wrong with what both commands say of it, in little memory and time: None where nothing is."""
+    """Why a store's file is refused by `serve`, and what is wrong with what both commands say of
+    it, in little memory and time: None where nothing is."""
     path, lib, out, err = (f"{room}/{name}" for name in ("it.store", "lib.idl", "out", "err"))
     now = file.now()
     due = file.mapped(dumped) if now[1] else (3, b"", fault("not a store"))
@@ -457,7 +591,11 @@ def judged_store(room, file, library):
         if got != wanted or took > 1 or file.now() != now:
             return (
                 refusal,
-                f"{words[0]}: wanted {wanted[0], wanted[1][:200], wanted[2]}, got {got[0], got[1][:200], got[2]}, {took:.2f} s{', and the file is another' if file.now() != now else ''}",
+                (
+                    f"{words[0]}: wanted {wanted[0], wanted[1][:200], wanted[2]}, got "
+                    f"{got[0], got[1][:200], got[2]}, {took:.2f} "
+                    f"s{', and the file is another' if file.now() != now else ''}"
+                ),
             )
     return refusal, None
 

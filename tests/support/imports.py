@@ -1,4 +1,5 @@
-"""Which functions a program takes from shared libraries, as the dynamic symbols of its file (ELF, 64 bits, little-endian) have them."""
+"""Which functions a program takes from shared libraries, as the dynamic symbols of its file (ELF,
+64 bits, little-endian) have them."""
 import struct
 
 DYNAMIC_SYMBOLS = 11
@@ -14,7 +15,10 @@ def imports_of(path):
         raise ValueError(f"{path} is no ELF file of 64 bits")
     (at,) = struct.unpack_from("<Q", data, 40)
     size, count = struct.unpack_from("<HH", data, 58)
-    sections = [struct.unpack_from(NAME_OF_SECTION_FIELDS, data, at + place * size) for place in range(count)]
+    sections = [
+        struct.unpack_from(NAME_OF_SECTION_FIELDS, data, at + place * size)
+        for place in range(count)
+    ]
     found = set()
     for _, kind, _, _, start, length, link, _, _, each in sections:
         if kind != DYNAMIC_SYMBOLS:

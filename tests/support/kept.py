@@ -1,12 +1,32 @@
-"""Libraries of the model: their canonical text, what a second one has to keep of the first, and random changes of one. Written from docs/reference/idl.md and
-docs/reference/library.md alone."""
+"""Libraries of the model: their canonical text, what a second one has to keep of the first, and
+random changes of one. Written from docs/reference/idl.md and docs/reference/library.md alone."""
 import copy
 import uuid
 
 EMPTY, I2, I4, CY, BSTR, ERROR, BOOL, VARIANT, DECIMAL = 0, 2, 3, 6, 8, 10, 11, 12, 14
 I1, UI1, UI2, UI4, I8, UI8, INT, UINT, ARRAY = 16, 17, 18, 19, 20, 21, 22, 23, 0x2000
-WORDS = {I1: "char", UI1: "unsigned char", I2: "short", UI2: "unsigned short", I4: "long", UI4: "unsigned long", INT: "int", UINT: "unsigned int", I8: "hyper"}
-WORDS.update({UI8: "unsigned hyper", CY: "CURRENCY", BOOL: "VARIANT_BOOL", ERROR: "SCODE", DECIMAL: "DECIMAL", BSTR: "BSTR", VARIANT: "VARIANT"})
+WORDS = {
+    I1: "char",
+    UI1: "unsigned char",
+    I2: "short",
+    UI2: "unsigned short",
+    I4: "long",
+    UI4: "unsigned long",
+    INT: "int",
+    UINT: "unsigned int",
+    I8: "hyper",
+}
+WORDS.update(
+    {
+        UI8: "unsigned hyper",
+        CY: "CURRENCY",
+        BOOL: "VARIANT_BOOL",
+        ERROR: "SCODE",
+        DECIMAL: "DECIMAL",
+        BSTR: "BSTR",
+        VARIANT: "VARIANT",
+    }
+)
 
 
 def fold(name):
@@ -28,7 +48,11 @@ class Parameter:
         self.optional = optional or default is not None
 
     def text(self):
-        attributes = ["in", *(["optional"] if self.optional else []), *([f"defaultvalue({self.default[1]})"] if self.default else [])]
+        attributes = [
+            "in",
+            *(["optional"] if self.optional else []),
+            *([f"defaultvalue({self.default[1]})"] if self.default else []),
+        ]
         return f"[{', '.join(attributes)}] {word(self.vt)} {self.name}"
 
     def kept(self):
@@ -39,7 +63,13 @@ class Member:
     """A property, which stands under `methods:` where it has parameters, or a method."""
 
     def __init__(self, name, vt, parameters=(), forms=("get", "put"), method=False):
-        self.name, self.vt, self.parameters, self.forms, self.method = name, vt, parameters, forms, method
+        self.name, self.vt, self.parameters, self.forms, self.method = (
+            name,
+            vt,
+            parameters,
+            forms,
+            method,
+        )
 
     def is_plain(self):
         return not self.method and not self.parameters
@@ -49,16 +79,38 @@ class Member:
         name, own = fold(self.name), [it.kept() for it in self.parameters]
         if self.is_plain():
             readonly = "put" not in self.forms
-            return [(f"[id({dispid}){', readonly' if readonly else ''}] {word(self.vt)} {self.name};", (name, dispid, "property", self.vt, readonly))]
+            return [
+                (
+                    (
+                        f"[id({dispid}){', readonly' if readonly else ''}] {word(self.vt)} "
+                        f"{self.name};"
+                    ),
+                    (name, dispid, "property", self.vt, readonly),
+                )
+            ]
         if self.method:
-            return [(f"[id({dispid})] {word(self.vt)} {self.name}({', '.join(it.text() for it in self.parameters)});", (name, dispid, "method", self.vt, own))]
+            return [
+                (
+                    (
+                        f"[id({dispid})] {word(self.vt)} "
+                        f"{self.name}({', '.join(it.text() for it in self.parameters)});"
+                    ),
+                    (name, dispid, "method", self.vt, own),
+                )
+            ]
         found = []
         for form in self.forms:
-            parameters = [*self.parameters, *([Parameter("Value", self.vt)] if form == "put" else [])]
+            parameters = [
+                *self.parameters,
+                *([Parameter("Value", self.vt)] if form == "put" else []),
+            ]
             vt = self.vt if form == "get" else None
             found.append(
                 (
-                    f"[id({dispid}), prop{form}] {word(vt)} {self.name}({', '.join(it.text() for it in parameters)});",
+                    (
+                        f"[id({dispid}), prop{form}] {word(vt)} "
+                        f"{self.name}({', '.join(it.text() for it in parameters)});"
+                    ),
                     (name, dispid, form, vt, [it.kept() for it in parameters]),
                 )
             )
@@ -66,10 +118,17 @@ class Member:
 
 
 class Library:
-    """`interfaces` has a name and the members by DISPID of each GUID, `classes` a name, interfaces in their order and the default one, both in the text's order."""
+    """`interfaces` has a name and the members by DISPID of each GUID, `classes` a name, interfaces
+    in their order and the default one, both in the text's order."""
 
     def __init__(self, guid, interfaces, classes):
-        self.guid, self.name, self.version, self.interfaces, self.classes = guid, "Demo", (1, 0), interfaces, classes
+        self.guid, self.name, self.version, self.interfaces, self.classes = (
+            guid,
+            "Demo",
+            (1, 0),
+            interfaces,
+            classes,
+        )
         self.changes = 0
 
     def members(self, guid):
@@ -86,9 +145,16 @@ class Library:
 
     def text(self):
         """The canonical text."""
-        lines = [f"[uuid({self.guid}), version({self.version[0]}.{self.version[1]})]", f"library {self.name} {{"]
+        lines = [
+            f"[uuid({self.guid}), version({self.version[0]}.{self.version[1]})]",
+            f"library {self.name} {{",
+        ]
         for guid, (name, _) in self.interfaces.items():
-            declared = [(member.is_plain(), line) for dispid, member in self.in_order(guid) for line, _ in member.declarations(dispid)]
+            declared = [
+                (member.is_plain(), line)
+                for dispid, member in self.in_order(guid)
+                for line, _ in member.declarations(dispid)
+            ]
             lines += [
                 f"[uuid({guid})]",
                 f"dispinterface {name} {{",
@@ -102,23 +168,36 @@ class Library:
             lines += [
                 f"[uuid({guid})]",
                 f"coclass {name} {{",
-                *[f"{'[default] ' if it == default else ''}dispinterface {self.interfaces[it][0]};" for it in faces],
+                *[
+                    f"{'[default] ' if it == default else ''}dispinterface "
+                    f"{self.interfaces[it][0]};"
+                    for it in faces
+                ],
                 "}",
             ]
         return "".join(f"{it}\n" for it in [*lines, "}"]).encode()
 
 
 def first_lost(new, old):
-    """What of a library another one does not keep: a GUID, and a DISPID or -1. None where it keeps all of it."""
+    """What of a library another one does not keep: a GUID, and a DISPID or -1. None where it keeps
+    all of it."""
     for guid in old.interfaces:
         if guid not in new.interfaces:
             return guid, -1
-        there = [kept for dispid, member in new.members(guid).items() for _, kept in member.declarations(dispid)]
+        there = [
+            kept
+            for dispid, member in new.members(guid).items()
+            for _, kept in member.declarations(dispid)
+        ]
         for dispid, member in old.in_order(guid):
             if any(kept not in there for _, kept in member.declarations(dispid)):
                 return guid, dispid
     for guid, (_, faces, default) in old.classes.items():
-        if guid not in new.classes or not {*faces} <= {*new.classes[guid][1]} or new.classes[guid][2] != default:
+        if (
+            guid not in new.classes
+            or not {*faces} <= {*new.classes[guid][1]}
+            or new.classes[guid][2] != default
+        ):
             return guid, -1
     return None
 
@@ -150,11 +229,18 @@ def change(new, dice, number):
         if what < 3:
             members[free] = [
                 Member(f"New{number}", vt),
-                Member(f"New{number}", vt, (Parameter("Key", dice.choice([I4, VARIANT]), dice.random() < 0.5),)),
+                Member(
+                    f"New{number}",
+                    vt,
+                    (Parameter("Key", dice.choice([I4, VARIANT]), dice.random() < 0.5),),
+                ),
                 Member(f"New{number}", None, (Parameter("Key", vt),), method=True),
             ][what]
         elif what == 3:
-            new.interfaces[face] = (f"DNew{number}", {1: Member("Count", vt), 2: Member("Only", I4, (Parameter("Row", I2),), ("put",))})
+            new.interfaces[face] = (
+                f"DNew{number}",
+                {1: Member("Count", vt), 2: Member("Only", I4, (Parameter("Row", I2),), ("put",))},
+            )
         elif what == 4:
             new.classes[own] = (f"New{number}", [guid], guid)
         elif what == 5:
@@ -166,7 +252,11 @@ def change(new, dice, number):
         elif what == 7:
             members[dispid] = members.pop(dispid)
         else:
-            new.version, new.name, new.guid = (dice.randint(0, 65_535), number), f"Demo{number}", own
+            new.version, new.name, new.guid = (
+                (dice.randint(0, 65_535), number),
+                f"Demo{number}",
+                own,
+            )
     elif what == 0 and len(members) > 1:
         del members[dispid]
     elif what == 1:
@@ -180,7 +270,12 @@ def change(new, dice, number):
     elif what == 5 and member.parameters:
         member.parameters = (
             *member.parameters[:-1],
-            Parameter(f"Other{number}", member.parameters[-1].vt, member.parameters[-1].optional, member.parameters[-1].default),
+            Parameter(
+                f"Other{number}",
+                member.parameters[-1].vt,
+                member.parameters[-1].optional,
+                member.parameters[-1].default,
+            ),
         )
     elif what == 6 and len(new.classes) > 1:
         del new.classes[class_]
@@ -190,6 +285,10 @@ def change(new, dice, number):
     elif what == 8:
         new.interfaces = {face if it == guid else it: found for it, found in new.interfaces.items()}
         new.classes = {
-            it: (name, [face if one == guid else one for one in faces], face if default == guid else default)
+            it: (
+                name,
+                [face if one == guid else one for one in faces],
+                face if default == guid else default,
+            )
             for it, (name, faces, default) in new.classes.items()
         }

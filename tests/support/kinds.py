@@ -1,21 +1,24 @@
-"""How many instructions a request of each kind takes, as records in memory, and how many bytes it and its reply have."""
+"""How many instructions a request of each kind takes, as records in memory, and how many bytes it
+and its reply have."""
 import os
 from concurrent.futures import ThreadPoolExecutor
 
-import worked
-from instructions import of_session, spelled, tagged
-from model import I4, ITEM
 from oaut import LOCK, UNLOCK
-from running import run
-from wire import array, oaut
+from tests.support import worked
+from tests.support.instructions import of_session, spelled, tagged
+from tests.support.model import I4, ITEM
+from tests.support.running import run
+from tests.support.wire import array, oaut
 
 # each request of a kind is about another of so many objects
 OBJECTS = 100
 LIBRARY = b"""[uuid(11223344-5566-7788-99AA-BBCCDDEEFF01)] library Demo {
   [uuid(11223344-5566-7788-99AA-BBCCDDEEFF02)] dispinterface DItem {
     properties: [id(1)] long Count; [id(2)] BSTR Name; [id(3)] SAFEARRAY(long) Longs;
-    methods: [id(4), propget] long One([in] long A); [id(4), propput] void One([in] long A, [in] long Value);
-      [id(5), propget] long Two([in] long A, [in] long B); [id(5), propput] void Two([in] long A, [in] long B, [in] long Value);
+    methods: [id(4), propget] long One([in] long A); [id(4), propput] void One([in] long A, [in] \
+long Value);
+      [id(5), propget] long Two([in] long A, [in] long B); [id(5), propput] void Two([in] long A, \
+[in] long B, [in] long Value);
       [id(6), propget] long Three([in] long A, [in] long B, [in] long C);
       [id(6), propput] void Three([in] long A, [in] long B, [in] long C, [in] long Value); }
   [uuid(11223344-5566-7788-99AA-BBCCDDEEFF03)] coclass Item { [default] dispinterface DItem; } }"""
@@ -35,13 +38,23 @@ def with_parameters(count):
     }
 
 
-# how many times a put of a long a kind takes at most, and which takes more (docs/internals/decisions/instruction-counts.md)
+# how many times a put of a long a kind takes at most, and which takes more
+# (docs/internals/decisions/instruction-counts.md)
 MOST, SLOWER = 3, {
     **{f"{way}-{count}-keys": 4.5 for count in (1, 2, 3) for way in ("put", "get")},
-    **{"put-array": 6.5, "put-element": 6.5, "redim": 6, "get-array": 4, "get-element": 4, "lock": 4, "unlock": 4},
+    **{
+        "put-array": 6.5,
+        "put-element": 6.5,
+        "redim": 6,
+        "get-array": 4,
+        "get-element": 4,
+        "lock": 4,
+        "unlock": 4,
+    },
     **{"names": 4.5, "type-info": 4.5, "create": 4},
 }
-# what is sent for each object before the kinds, whose requests are sent one kind behind another: so all puts are over a value that is there
+# what is sent for each object before the kinds, whose requests are sent one kind behind another: so
+# all puts are over a value that is there
 BEFORE = [
     lambda of: oaut.ask_create(ITEM),
     lambda of: worked.put(COUNT, worked.i4(of), of),
@@ -68,7 +81,8 @@ KINDS = {
     "type-info": lambda of: oaut.ask_type_info(0),
     "create": BEFORE[0],
     "list": lambda of: oaut.ask_list(),
-    "release": lambda of: oaut.ask_release(2 * OBJECTS + 1 - of),  # the last first, so that each object stands where its number says
+    # the last first, so that each object stands where its number says
+    "release": lambda of: oaut.ask_release(2 * OBJECTS + 1 - of),
 }
 
 
@@ -77,7 +91,8 @@ def requests_of(kind):
 
 
 def of_kinds():
-    """How many instructions a request of each kind takes, on the average of one of each object. Sessions are counted side by side."""
+    """How many instructions a request of each kind takes, on the average of one of each object.
+    Sessions are counted side by side."""
     sent = [it for kind in BEFORE for it in requests_of(kind)]
     sessions = [list(sent)]
     for kind in KINDS.values():
@@ -85,13 +100,18 @@ def of_kinds():
         sessions.append(list(sent))
     with ThreadPoolExecutor(os.cpu_count()) as pool:
         counted = list(pool.map(lambda it: of_session(it, library=LIBRARY), sessions))
-    return {name: (ended - begun) // OBJECTS for name, begun, ended in zip(KINDS, counted, counted[1:])}
+    return {
+        name: (ended - begun) // OBJECTS for name, begun, ended in zip(KINDS, counted, counted[1:])
+    }
 
 
 def bytes_of_kinds():
-    """How many bytes a request of each kind has with its reply, each as a record. All are answered by success."""
+    """How many bytes a request of each kind has with its reply, each as a record. All are answered
+    by success."""
     sent = [it for kind in [*BEFORE, *KINDS.values()] for it in requests_of(kind)]
-    status, out, fault = run(["play", "lib.idl"], spelled(tagged(sent), ("play",)), {"lib.idl": LIBRARY})
+    status, out, fault = run(
+        ["play", "lib.idl"], spelled(tagged(sent), ("play",)), {"lib.idl": LIBRARY}
+    )
     replies, _ = oaut.Raw.split(out, 0, len(sent))
     codes = {oaut.read_reply(it).code for it in replies}
     if (status, len(replies), codes) != (0, len(sent), {0}):
@@ -102,6 +122,7 @@ def bytes_of_kinds():
 
 
 def times_a_put(found, lengths):
-    """How many times what a put of a long takes each kind takes: by the byte, or by the request where that has fewer bytes than a put."""
+    """How many times what a put of a long takes each kind takes: by the byte, or by the request
+    where that has fewer bytes than a put."""
     put = "put-long"
     return {name: found[name] / found[put] / max(1, lengths[name] / lengths[put]) for name in found}

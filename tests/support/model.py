@@ -1,13 +1,16 @@
-"""A small model of the server, written from docs/reference/records.md, docs/reference/binding.md, docs/reference/coercion.md, docs/internals/arrays.md,
-docs/reference/images.md and docs/reference/library.md alone.
+"""A small model of the server, written from docs/reference/records.md, docs/reference/binding.md,
+docs/reference/coercion.md, docs/internals/arrays.md, docs/reference/images.md and
+docs/reference/library.md alone.
 
-A value of the model is a pair of a type and its content, as `oaut.scalar_field` takes them, or an `Array`.
+A value of the model is a pair of a type and its content, as `oaut.scalar_field` takes them, or an
+`Array`.
 """
 import struct
 import uuid
 
-import wire
-from codes import (
+from oaut import ARRAY
+from tests.support import wire
+from tests.support.codes import (
     ARRAY_IS_LOCKED,
     BAD_INDEX,
     BAD_PARAM_COUNT,
@@ -19,11 +22,16 @@ from codes import (
     E_NOTIMPL,
     E_UNEXPECTED,
     MEDIUM_FULL,
+    MEMBER_NOT_FOUND,
+    OVERFLOW,
+    PARAM_NOT_FOUND,
+    PARAM_NOT_OPTIONAL,
+    TYPE_MISMATCH,
+    UNKNOWN_INTERFACE,
+    UNKNOWN_NAME,
 )
-from codes import MEMBER_NOT_FOUND, OVERFLOW, PARAM_NOT_FOUND, PARAM_NOT_OPTIONAL, TYPE_MISMATCH, UNKNOWN_INTERFACE, UNKNOWN_NAME
-from kept import Library, Member, Parameter, first_lost, fold
-from oaut import ARRAY
-from wire import oaut
+from tests.support.kept import Library, Member, Parameter, first_lost, fold
+from tests.support.wire import oaut
 
 EMPTY, NULL, I2, I4, CY, BSTR, ERROR, BOOL, VARIANT, DECIMAL = 0, 1, 2, 3, 6, 8, 10, 11, 12, 14
 I1, UI1, UI2, UI4, I8, UI8, INT, UINT = 16, 17, 18, 19, 20, 21, 22, 23
@@ -68,14 +76,24 @@ class Array:
         self.cells = self.cells[:count] + [zero(self.vt)] * (count - len(self.cells))
 
     def field(self):
-        return oaut.array_field(self.vt, self.bounds, self.cells if self.vt == VARIANT else [raw for _, raw in self.cells])
+        return oaut.array_field(
+            self.vt,
+            self.bounds,
+            self.cells if self.vt == VARIANT else [raw for _, raw in self.cells],
+        )
 
 
 def zero(vt):
     """The zero of a declared type: EMPTY of VARIANT."""
     if vt & ARRAY:
         return Array(vt - ARRAY, [(0, 0)], [])
-    return {VARIANT: (EMPTY, None), EMPTY: (EMPTY, None), NULL: (NULL, None), BSTR: (BSTR, None), DECIMAL: (DECIMAL, (0, 0, 0))}.get(vt, (vt, 0))
+    return {
+        VARIANT: (EMPTY, None),
+        EMPTY: (EMPTY, None),
+        NULL: (NULL, None),
+        BSTR: (BSTR, None),
+        DECIMAL: (DECIMAL, (0, 0, 0)),
+    }.get(vt, (vt, 0))
 
 
 def content_size(value):
@@ -83,13 +101,21 @@ def content_size(value):
     vt, raw = value
     if vt == BSTR:
         return 4 + len(raw or b"")
-    return {EMPTY: 0, NULL: 0, BOOL: 1, ERROR: 4, CY: 8, DECIMAL: 14}.get(vt) if vt not in {**SIGNED, **UNSIGNED} else {**SIGNED, **UNSIGNED}[vt] // 8
+    return (
+        {EMPTY: 0, NULL: 0, BOOL: 1, ERROR: 4, CY: 8, DECIMAL: 14}.get(vt)
+        if vt not in {**SIGNED, **UNSIGNED}
+        else {**SIGNED, **UNSIGNED}[vt] // 8
+    )
 
 
 def image_size(value):
     """How many bytes a value has in an image."""
     if isinstance(value, Array):
-        return 4 + 8 * len(value.bounds) + sum([content_size(it) + 2 * (value.vt == VARIANT) for it in value.cells])
+        return (
+            4
+            + 8 * len(value.bounds)
+            + sum([content_size(it) + 2 * (value.vt == VARIANT) for it in value.cells])
+        )
     return 2 + content_size(value)
 
 
@@ -153,17 +179,25 @@ def coerced(value, vt):
     raise Refusal(TYPE_MISMATCH)
 
 
-ITEM, PLAIN = uuid.UUID("11223344-5566-7788-99aa-bbccddeeff03"), uuid.UUID("11223344-5566-7788-99aa-bbccddeeff06")
-FIRST_ONE, SECOND = uuid.UUID("11223344-5566-7788-99aa-bbccddeeff02"), uuid.UUID("11223344-5566-7788-99aa-bbccddeeff04")
+ITEM, PLAIN = uuid.UUID("11223344-5566-7788-99aa-bbccddeeff03"), uuid.UUID(
+    "11223344-5566-7788-99aa-bbccddeeff06"
+)
+FIRST_ONE, SECOND = uuid.UUID("11223344-5566-7788-99aa-bbccddeeff02"), uuid.UUID(
+    "11223344-5566-7788-99aa-bbccddeeff04"
+)
 LIBRARY = b"""[uuid(11223344-5566-7788-99AA-BBCCDDEEFF01), version(1.0)]
 library Demo {
   [uuid(11223344-5566-7788-99AA-BBCCDDEEFF02)] dispinterface DItem {
     properties:
-      [id(1)] long Count; [id(2)] BSTR Name; [id(3)] CURRENCY Price; [id(4)] DECIMAL Exact; [id(5)] VARIANT_BOOL Flag;
-      [id(6), readonly] long Version; [id(7)] VARIANT Any; [id(8)] SAFEARRAY(short) Grid; [id(-5)] unsigned hyper Wide;
+      [id(1)] long Count; [id(2)] BSTR Name; [id(3)] CURRENCY Price; [id(4)] DECIMAL Exact; \
+[id(5)] VARIANT_BOOL Flag;
+      [id(6), readonly] long Version; [id(7)] VARIANT Any; [id(8)] SAFEARRAY(short) Grid; [id(-5)] \
+unsigned hyper Wide;
     methods:
-      [id(9), propget] BSTR Cell([in] long Row, [in] BSTR Key, [in, optional, defaultvalue(1)] short Page);
-      [id(9), propput] void Cell([in] long Row, [in] BSTR Key, [in, optional, defaultvalue(1)] short Page, [in] BSTR Value);
+      [id(9), propget] BSTR Cell([in] long Row, [in] BSTR Key, [in, optional, defaultvalue(1)] \
+short Page);
+      [id(9), propput] void Cell([in] long Row, [in] BSTR Key, [in, optional, defaultvalue(1)] \
+short Page, [in] BSTR Value);
       [id(10)] void Clear();
   };
   [uuid(11223344-5566-7788-99AA-BBCCDDEEFF04)] dispinterface DMore {
@@ -174,7 +208,8 @@ library Demo {
       [id(4), propput] void Sums([in, optional] VARIANT Key, [in] SAFEARRAY(CURRENCY) Value);
       [id(5), propput] void Only([in] unsigned char Place, [in] SAFEARRAY(long) Value);
   };
-  [uuid(11223344-5566-7788-99AA-BBCCDDEEFF03)] coclass Item { [default] dispinterface DItem; dispinterface DMore; };
+  [uuid(11223344-5566-7788-99AA-BBCCDDEEFF03)] coclass Item { [default] dispinterface DItem; \
+dispinterface DMore; };
   [uuid(11223344-5566-7788-99AA-BBCCDDEEFF06)] coclass Plain { [default] dispinterface DMore; };
 };
 """
@@ -184,18 +219,35 @@ CELL = (Parameter("Row", I4), Parameter("Key", BSTR), Parameter("Page", I2, defa
 def first_library():
     """The library above."""
     first = {
-        **{1: Member("Count", I4), 2: Member("Name", BSTR), 3: Member("Price", CY), 4: Member("Exact", DECIMAL), 5: Member("Flag", BOOL)},
-        **{6: Member("Version", I4, forms=("get",)), 7: Member("Any", VARIANT), 8: Member("Grid", ARRAY + I2), -5: Member("Wide", UI8)},
+        **{
+            1: Member("Count", I4),
+            2: Member("Name", BSTR),
+            3: Member("Price", CY),
+            4: Member("Exact", DECIMAL),
+            5: Member("Flag", BOOL),
+        },
+        **{
+            6: Member("Version", I4, forms=("get",)),
+            7: Member("Any", VARIANT),
+            8: Member("Grid", ARRAY + I2),
+            -5: Member("Wide", UI8),
+        },
         **{9: Member("Cell", BSTR, CELL), 10: Member("Clear", None, method=True)},
     }
     second = {
-        **{1: Member("Count", I2), 2: Member("Values", ARRAY + VARIANT), 3: Member("Words", ARRAY + BSTR)},
+        **{
+            1: Member("Count", I2),
+            2: Member("Values", ARRAY + VARIANT),
+            3: Member("Words", ARRAY + BSTR),
+        },
         4: Member("Sums", ARRAY + CY, (Parameter("Key", VARIANT, optional=True),)),
         5: Member("Only", ARRAY + I4, (Parameter("Place", UI1),), forms=("put",)),
     }
     interfaces = {FIRST_ONE: ("DItem", first), SECOND: ("DMore", second)}
     return Library(
-        uuid.UUID("11223344-5566-7788-99aa-bbccddeeff01"), interfaces, {ITEM: ("Item", [FIRST_ONE, SECOND], FIRST_ONE), PLAIN: ("Plain", [SECOND], SECOND)}
+        uuid.UUID("11223344-5566-7788-99aa-bbccddeeff01"),
+        interfaces,
+        {ITEM: ("Item", [FIRST_ONE, SECOND], FIRST_ONE), PLAIN: ("Plain", [SECOND], SECOND)},
     )
 
 
@@ -204,7 +256,8 @@ class Model:
         self.next, self.objects, self.image, self.library = 1, {}, 8, first_library()
 
     def change(self, event, growth):
-        """A change whose event has so many bytes, and which adds so many to the image of the objects: refused where either is too long."""
+        """A change whose event has so many bytes, and which adds so many to the image of the
+        objects: refused where either is too long."""
         if event > EVENT_LIMIT:
             raise Refusal(E_INVALIDARG)
         if self.image + growth > TABLE_LIMIT:
@@ -213,7 +266,12 @@ class Model:
 
     def put(self, cells, name, value):
         place = place_size(name)
-        self.change(5 + place + image_size(value), image_size(value) - image_size(cells[name]) if name in cells else place + image_size(value))
+        self.change(
+            5 + place + image_size(value),
+            image_size(value) - image_size(cells[name])
+            if name in cells
+            else place + image_size(value),
+        )
         cells[name] = value
 
     def interface(self, of, guid):
@@ -264,7 +322,8 @@ class Model:
             raise Refusal(fault.code, given[-3])
 
     def cell(self, call, form=None):
-        """The cells of the object, the name of the one that a call is about, its type and its new value."""
+        """The cells of the object, the name of the one that a call is about, its type and its new
+        value."""
         interface = self.interface(call["object"], call["interface"])
         if call["riid"]:
             raise Refusal(UNKNOWN_INTERFACE)
@@ -304,7 +363,11 @@ class Model:
             raise Refusal(DISCONNECTED)
         if any(isinstance(it, Array) and it.locks for it in self.objects[of][1].values()):
             raise Refusal(ARRAY_IS_LOCKED)
-        self.change(5, -24 - sum([place_size(name) + image_size(it) for name, it in self.objects[of][1].items()]))
+        self.change(
+            5,
+            -24
+            - sum([place_size(name) + image_size(it) for name, it in self.objects[of][1].items()]),
+        )
         del self.objects[of]
         return b""
 
@@ -327,7 +390,11 @@ class Model:
         old = cells.get(name)
         if isinstance(old, Array) and old.locks:
             raise Refusal(ARRAY_IS_LOCKED)
-        self.put(cells, name, Array(value.vt, value.bounds, value.cells) if isinstance(value, Array) else value)
+        self.put(
+            cells,
+            name,
+            Array(value.vt, value.bounds, value.cells) if isinstance(value, Array) else value,
+        )
         return b""
 
     def get_element(self, call, indices):
@@ -340,7 +407,10 @@ class Model:
         if isinstance(value, Array):
             raise Refusal(TYPE_MISMATCH)
         element = coerced(value, array.vt)
-        self.change(7 + place_size(name) + 4 * len(indices) + image_size(element), image_size(element) - image_size(array.cells[place]))
+        self.change(
+            7 + place_size(name) + 4 * len(indices) + image_size(element),
+            image_size(element) - image_size(array.cells[place]),
+        )
         array.cells[place] = element
         return b""
 
@@ -365,14 +435,17 @@ class Model:
         return struct.pack("<II", array.locks, 0)
 
     def listing(self):
-        entries = [struct.pack("<II", it, 0) + self.objects[it][0].bytes_le for it in sorted(self.objects)]
+        entries = [
+            struct.pack("<II", it, 0) + self.objects[it][0].bytes_le for it in sorted(self.objects)
+        ]
         return struct.pack("<II", len(entries), 0) + b"".join(entries)
 
     def index(self, index):
         raise Refusal(BAD_INDEX)
 
     def replace(self, library):
-        """Another library takes the place of this one where it keeps all of it; None is a text that is no library."""
+        """Another library takes the place of this one where it keeps all of it; None is a text that
+        is no library."""
         if library is None:
             raise Refusal(BAD_STUB)
         lost = first_lost(library, self.library)

@@ -18,7 +18,11 @@ def why_not():
     if done.returncode:
         return "no network namespaces: not the superuser of this machine"
     try:
-        done = subprocess.run(["ip", "netns", "exec", name, "ip", "link", "add", "br0", "type", "bridge"], capture_output=True, text=True)
+        done = subprocess.run(
+            ["ip", "netns", "exec", name, "ip", "link", "add", "br0", "type", "bridge"],
+            capture_output=True,
+            text=True,
+        )
         return "no bridge in a network namespace" if done.returncode else ""
     finally:
         subprocess.run(["ip", "netns", "del", name], capture_output=True)
@@ -32,7 +36,9 @@ class Host:
 
     def start(self, *words, **how):
         """Starts a process there, which is killed with the host."""
-        child = subprocess.Popen(["ip", "netns", "exec", self.name, *words], start_new_session=True, **how)
+        child = subprocess.Popen(
+            ["ip", "netns", "exec", self.name, *words], start_new_session=True, **how
+        )
         self.processes.append(child)
         return child
 
@@ -67,7 +73,20 @@ class Hosts:
                 self.inside(it, "addr", "add", f"{it.address}/24", "dev", "br0")
                 self.inside(it, "link", "set", "br0", "up")
                 continue
-            self.ip("-n", first, "link", "add", f"h{at}", "type", "veth", "peer", "name", "eth0", "netns", it.name)
+            self.ip(
+                "-n",
+                first,
+                "link",
+                "add",
+                f"h{at}",
+                "type",
+                "veth",
+                "peer",
+                "name",
+                "eth0",
+                "netns",
+                it.name,
+            )
             self.inside(self.hosts[0], "link", "set", f"h{at}", "master", "br0", "up")
             self.inside(it, "addr", "add", f"{it.address}/24", "dev", "eth0")
             self.inside(it, "link", "set", "eth0", "up")

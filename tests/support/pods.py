@@ -1,5 +1,6 @@
-"""Podman in folders of its own, with the settings that work in a container and without systemd. Its locks are files of these folders: those in memory are the
-whole machine's, and each podman with new folders would take them for its own."""
+"""Podman in folders of its own, with the settings that work in a container and without systemd. Its
+locks are files of these folders: those in memory are the whole machine's, and each podman with new
+folders would take them for its own."""
 import functools
 import json
 import os
@@ -22,7 +23,8 @@ lock_type = "file"
 
 @functools.lru_cache(None)
 def why_not():
-    """Why no container runs here, or nothing. In the gate's own image these tests are never left out: if none runs there, they fail."""
+    """Why no container runs here, or nothing. In the gate's own image these tests are never left
+    out: if none runs there, they fail."""
     if os.environ.get("OAUT_GATE_IMAGE"):
         return ""
     missing = [it for it in ("podman", "buildah", "runc", "catatonit") if shutil.which(it) is None]
@@ -32,7 +34,11 @@ def why_not():
     with Podman() as podman, tempfile.TemporaryDirectory() as root:
         shutil.copy(shutil.which("catatonit"), f"{root}/it")
         done = podman.run("run", "--rm", "--rootfs", root, "/it", "--version")
-    return "" if done.returncode == 0 else f"podman runs no container here: {' '.join(done.stderr[-200:].split())}"
+    return (
+        ""
+        if done.returncode == 0
+        else f"podman runs no container here: {' '.join(done.stderr[-200:].split())}"
+    )
 
 
 class Podman:
@@ -53,11 +59,28 @@ class Podman:
         self.folder.cleanup()
 
     def command(self, *words):
-        return ["podman", "--root", f"{self.room}/root", "--runroot", f"{self.room}/run", "--tmpdir", f"{self.room}/tmp", "--storage-driver=vfs", *words]
+        return [
+            "podman",
+            "--root",
+            f"{self.room}/root",
+            "--runroot",
+            f"{self.room}/run",
+            "--tmpdir",
+            f"{self.room}/tmp",
+            "--storage-driver=vfs",
+            *words,
+        ]
 
     def run(self, *words, **how):
         """Runs podman to its end."""
-        return subprocess.run(self.command(*words), env=self.environment, capture_output=True, text=True, timeout=600, **how)
+        return subprocess.run(
+            self.command(*words),
+            env=self.environment,
+            capture_output=True,
+            text=True,
+            timeout=600,
+            **how,
+        )
 
     def told(self, *words):
         """What podman prints."""

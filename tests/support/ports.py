@@ -16,8 +16,9 @@ def has_ipv6():
 
 
 def free_port():
-    """A port of 127.0.0.1, and of ::1 where there is that. It stays bound as long as this process lives, so that no other process gets it, and no
-    connection has it as its own end. A program that sets SO_REUSEADDR, as servers do, may listen on it all the same."""
+    """A port of 127.0.0.1, and of ::1 where there is that. It stays bound as long as this process
+    lives, so that no other process gets it, and no connection has it as its own end. A program that
+    sets SO_REUSEADDR, as servers do, may listen on it all the same."""
     hosts = [(socket.AF_INET, "127.0.0.1")] + ([(socket.AF_INET6, "::1")] if has_ipv6() else [])
     while True:
         with contextlib.ExitStack() as stack, contextlib.suppress(OSError):

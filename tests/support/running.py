@@ -1,7 +1,7 @@
 """What the cases share: the program, how it is run, and how its answers are compared.
 
-The program is the one that the environment variable OAUT_PROGRAM names, as `tools/cases.py --program PATH` sets it; where there is none,
-crates/oaut/out/oaut, as `rt ci` leaves it.
+The program is the one that the environment variable OAUT_PROGRAM names, as `tools/cases.py
+--program PATH` sets it; where there is none, crates/oaut/out/oaut, as `rt ci` leaves it.
 """
 import ctypes
 import errno
@@ -29,7 +29,8 @@ def text_of(name):
 
 
 def rows_of(name):
-    """The rows of a table that stands in the folder of tables, in a file of lines: those that begin with a `#` say what the rows are."""
+    """The rows of a table that stands in the folder of tables, in a file of lines: those that begin
+    with a `#` say what the rows are."""
     with open(f"{TABLES}/{name}") as file:
         return [line.rstrip("\n") for line in file if not line.startswith("#")]
 
@@ -41,11 +42,13 @@ REPLIES = text_of("first.out")
 CREATE = REQUESTS.splitlines()[0]
 CREATED = REPLIES.splitlines()[0]
 
-TIMEOUT = 400  # seconds that a run may take, on a machine with other work: it is there for one that hangs
+# seconds that a run may take, on a machine with other work: it is there for one that hangs
+TIMEOUT = 400
 
 
 def goes_on():
-    """Says that a test has got something done: tools/cases.py, which ends all where nothing happens for long, waits as long again."""
+    """Says that a test has got something done: tools/cases.py, which ends all where nothing happens
+    for long, waits as long again."""
     watch = getattr(sys.modules["__main__"], "watch", None)
     if watch:
         watch()
@@ -61,7 +64,8 @@ def zeros_at(content, at, end):
 
 
 def fill(room, files):
-    """Writes files into a folder. Where a piece of a file has zeros alone it is left out, so that a store takes no more room than what it holds."""
+    """Writes files into a folder. Where a piece of a file has zeros alone it is left out, so that a
+    store takes no more room than what it holds."""
     for name, content in files.items():
         with open(f"{room}/{name}", "wb") as file:
             for at in range(0, len(content), PIECE):
@@ -73,7 +77,8 @@ def fill(room, files):
 
 
 def has_bytes(path, content):
-    """Whether a file holds these bytes. What takes no room on its device is zeros, and is not read."""
+    """Whether a file holds these bytes. What takes no room on its device is zeros, and is not
+    read."""
     with open(path, "rb") as file:
         number, at = file.fileno(), 0
         end = os.fstat(number).st_size
@@ -85,18 +90,27 @@ def has_bytes(path, content):
             except OSError:  # there is no more data
                 start = end
             hole = os.lseek(number, start, os.SEEK_HOLE) if start < end else end
-            if not zeros_at(content, at, start) or not content.startswith(os.pread(number, hole - start, start), start):
+            if not zeros_at(content, at, start) or not content.startswith(
+                os.pread(number, hole - start, start), start
+            ):
                 return False
             at = hole
     return True
 
 
 def run_in(room, words, given=b"", stdin=None, stdout=None, before=None, under=()):
-    """Runs the program in a folder, after a call in its process, and returns its status and what it wrote. `under` are the words of what it runs under."""
+    """Runs the program in a folder, after a call in its process, and returns its status and what it
+    wrote. `under` are the words of what it runs under."""
     source = {"input": given} if stdin is None else {"stdin": stdin}
     try:
         done = subprocess.run(
-            [*under, PROGRAM, *words], cwd=room, stdout=stdout or subprocess.PIPE, stderr=subprocess.PIPE, preexec_fn=before, timeout=TIMEOUT, **source
+            [*under, PROGRAM, *words],
+            cwd=room,
+            stdout=stdout or subprocess.PIPE,
+            stderr=subprocess.PIPE,
+            preexec_fn=before,
+            timeout=TIMEOUT,
+            **source,
         )
     except subprocess.TimeoutExpired as late:
         return None, late.stdout, late.stderr
@@ -119,7 +133,8 @@ LIBC = ctypes.CDLL(None)
 
 
 def like_others():
-    """Takes from the superuser, as a call in the program's process, what lets it open files that their rights do not allow."""
+    """Takes from the superuser, as a call in the program's process, what lets it open files that
+    their rights do not allow."""
     for capability in (1, 2):  # CAP_DAC_OVERRIDE, CAP_DAC_READ_SEARCH
         LIBC.prctl(24, capability, 0, 0, 0)  # PR_CAPBSET_DROP
 
@@ -129,21 +144,35 @@ def files_of(length):
 
     def limit():
         resource.setrlimit(resource.RLIMIT_FSIZE, (length, length))
-        signal.signal(signal.SIGXFSZ, signal.SIG_DFL)  # (Python ignores it, and so would the program)
+        # (Python ignores it, and so would the program)
+        signal.signal(signal.SIGXFSZ, signal.SIG_DFL)
 
     return limit
 
 
 class Talk:
-    """A session over pipes, in a new folder where none is given: what is sent is sent at once, and what is waited for is waited for no longer than
-    the time."""
+    """A session over pipes, in a new folder where none is given: what is sent is sent at once, and
+    what is waited for is waited for no longer than the time."""
 
-    def __init__(self, library, words=("--hex",), stdout=subprocess.PIPE, room=None, command=("play",), under=()):
+    def __init__(
+        self,
+        library,
+        words=("--hex",),
+        stdout=subprocess.PIPE,
+        room=None,
+        command=("play",),
+        under=(),
+    ):
         self.own = tempfile.TemporaryDirectory() if room is None else None
         room = room or self.own.name
         fill(room, {"lib.idl": library})
         self.process = subprocess.Popen(
-            [*under, PROGRAM, *command, "lib.idl", *words], cwd=room, stdin=subprocess.PIPE, stdout=stdout, stderr=subprocess.PIPE, bufsize=0
+            [*under, PROGRAM, *command, "lib.idl", *words],
+            cwd=room,
+            stdin=subprocess.PIPE,
+            stdout=stdout,
+            stderr=subprocess.PIPE,
+            bufsize=0,
         )
 
     def __enter__(self):
@@ -200,21 +229,33 @@ def fault(text):
 
 
 def cannot(act, name, why):
-    """The lines of a file that cannot be read or written: the second one has the system's words for its error, such as ENOENT, or those that are given."""
-    return fault(f"cannot {act} {name}\n{name}: {os.strerror(getattr(errno, why)) if hasattr(errno, why) else why}")
+    """The lines of a file that cannot be read or written: the second one has the system's words for
+    its error, such as ENOENT, or those that are given."""
+    return fault(
+        f"cannot {act} {name}\n{name}: "
+        f"{os.strerror(getattr(errno, why)) if hasattr(errno, why) else why}"
+    )
 
 
 def short(it):
-    return it if it is None or len(it) <= 420 else it[:300] + (" .. " if isinstance(it, str) else b" .. ") + it[-100:]
+    return (
+        it
+        if it is None or len(it) <= 420
+        else it[:300] + (" .. " if isinstance(it, str) else b" .. ") + it[-100:]
+    )
 
 
 def told(wanted, got):
     """What is said of a status, an output and a fault that are others."""
-    return f"wanted {wanted[0], short(wanted[1]), wanted[2]}, got {got[0], short(got[1]), short(got[2])}"
+    return (
+        f"wanted {wanted[0], short(wanted[1]), wanted[2]}, got "
+        f"{got[0], short(got[1]), short(got[2])}"
+    )
 
 
 class Cases(unittest.TestCase):
-    """A test has any number of cases: each is counted, and told by its name where it fails, and the others go on."""
+    """A test has any number of cases: each is counted, and told by its name where it fails, and the
+    others go on."""
 
     def tell(self, name, well, what=""):
         """A case: whether it is well, and what is said of it otherwise."""
@@ -228,16 +269,33 @@ class Cases(unittest.TestCase):
         self.tell(name, got == (status, out, err), told((status, out, err), got))
 
     def leaves(self, name, words, status, out, err, files, left, **how):
-        """A command in a folder of these files, and what each of some files holds behind it, None where it is not there."""
+        """A command in a folder of these files, and what each of some files holds behind it, None
+        where it is not there."""
         with tempfile.TemporaryDirectory() as room:
             fill(room, files)
             got = run_in(room, words, **how)
             self.tell(name, got == (status, out, err), told((status, out, err), got))
             for file, wanted in left.items():
                 path = f"{room}/{file}"
-                well = has_bytes(path, wanted) if wanted is not None and os.path.exists(path) else wanted is None and not os.path.exists(path)
-                self.tell(f"{name}: what {file} holds", well, f"{os.path.getsize(path)} bytes" if os.path.exists(path) else "it is not there")
+                well = (
+                    has_bytes(path, wanted)
+                    if wanted is not None and os.path.exists(path)
+                    else wanted is None and not os.path.exists(path)
+                )
+                self.tell(
+                    f"{name}: what {file} holds",
+                    well,
+                    f"{os.path.getsize(path)} bytes" if os.path.exists(path) else "it is not there",
+                )
 
     def checked(self, name, library, status, out, err, **how):
         """What `oaut check` makes of a library."""
-        self.case(f"check: {name}", ["check", "lib.idl"], status, out, err, files={"lib.idl": library}, **how)
+        self.case(
+            f"check: {name}",
+            ["check", "lib.idl"],
+            status,
+            out,
+            err,
+            files={"lib.idl": library},
+            **how,
+        )

@@ -1,13 +1,14 @@
-"""What a shared session is to hand out, by docs/reference/shared.md and the model alone: `Sharing().told(stream)` is what is told behind a stream of frames, as
-pairs of a client and a reply behind its length, or of a client and no bytes at its end."""
+"""What a shared session is to hand out, by docs/reference/shared.md and the model alone:
+`Sharing().told(stream)` is what is told behind a stream of frames, as pairs of a client and a reply
+behind its length, or of a client and no bytes at its end."""
 import collections
 import struct
 
-import wire  # (which finds the package)
 import oaut.frames
-from asked import Answering
-from codes import BAD_STUB, E_UNEXPECTED
-from model import Model, Refusal
+from tests.support import wire  # (which finds the package)
+from tests.support.asked import Answering
+from tests.support.codes import BAD_STUB, E_UNEXPECTED
+from tests.support.model import Model, Refusal
 
 assert wire.oaut is oaut
 ALL = 0xFFFF_FFFF
@@ -39,11 +40,13 @@ class Owned(Model):
 
 
 class Streams:
-    """A stream of frames, taken apart: `body` is called for each record of a client, and `over` at its end, in the order in which they come."""
+    """A stream of frames, taken apart: `body` is called for each record of a client, and `over` at
+    its end, in the order in which they come."""
 
     def __init__(self):
         self.frame, self.broken = b"", False
-        self.came = {}  # of each client that is there what came of its record; nothing where it has had its end
+        # of each client that is there what came of its record; nothing where it has had its end
+        self.came = {}
 
     @property
     def ends_as(self):
@@ -101,7 +104,8 @@ class Streams:
 
 
 class Sharing(Streams):
-    """One shared session. `answering` may know more libraries than the model's; its model is to be an Owned."""
+    """One shared session. `answering` may know more libraries than the model's; its model is to be
+    an Owned."""
 
     def __init__(self, answering=None):
         super().__init__()
@@ -125,13 +129,15 @@ class Sharing(Streams):
         self.out.append((client, struct.pack("<I", len(reply)) + reply))
 
     def over(self, client, refused):
-        """A client has its last reply, and its locks are free. `refused`: what came last was no request."""
+        """A client has its last reply, and its locks are free. `refused`: what came last was no
+        request."""
         self.answering.model.give_back(client)
         self.out += [(client, STUB)] * refused + [(client, b"")]
 
 
 def told_of(out, cut=False):
-    """What a program has told, of its frames: as `Sharing.told` has it. Raises ValueError for what are no frames of whole replies, or where the last one is not whole and `cut` is not said."""
+    """What a program has told, of its frames: as `Sharing.told` has it. Raises ValueError for what
+    are no frames of whole replies, or where the last one is not whole and `cut` is not said."""
     frames, at = oaut.frames.split(out)
     if at != len(out) and not cut:
         raise ValueError("the output ends within a frame")
@@ -141,7 +147,15 @@ def told_of(out, cut=False):
             found.append((client, b""))
         place = 0
         while place < len(data):
-            end = place + 4 + (struct.unpack_from("<I", data, place)[0] if len(data) - place >= 4 else len(data))
+            end = (
+                place
+                + 4
+                + (
+                    struct.unpack_from("<I", data, place)[0]
+                    if len(data) - place >= 4
+                    else len(data)
+                )
+            )
             if end > len(data):
                 raise ValueError("a frame does not bring whole replies")
             found.append((client, data[place:end]))

@@ -1,13 +1,15 @@
 """What the words of the tables of requests say."""
-import wire
-from codes import UNKNOWN_NAME
-from codes import WORDS as CODES
-from turns import HALF, NO_INDEX, i4
+from tests.support import wire
+from tests.support.codes import UNKNOWN_NAME
+from tests.support.codes import WORDS as CODES
+from tests.support.turns import HALF, NO_INDEX, i4
 
 
 def guid_of(last):
     """The GUID of the libraries with this last byte, 0 for that of zeros."""
-    return bytes.fromhex("443322116655887799aabbccddeeff%02x" % int(last)) if int(last) else bytes(16)
+    return (
+        bytes.fromhex("443322116655887799aabbccddeeff%02x" % int(last)) if int(last) else bytes(16)
+    )
 
 
 VALUES_OF = {
@@ -28,4 +30,6 @@ def answered_so(answer, fields_of):
     word, _, index = answer.partition(" ")
     if word in CODES:
         return lambda tag: wire.reply(tag, CODES[word], int(index or NO_INDEX))
-    return lambda tag: wire.reply(tag, UNKNOWN_NAME if "-1" in answer.split() else 0, fields=fields_of(answer))
+    return lambda tag: wire.reply(
+        tag, UNKNOWN_NAME if "-1" in answer.split() else 0, fields=fields_of(answer)
+    )

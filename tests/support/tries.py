@@ -1,4 +1,5 @@
-"""Bounds of speed that hold on a machine with other work: each is tried up to three times. Slow code misses it every time, a busy machine now and then."""
+"""Bounds of speed that hold on a machine with other work: each is tried up to three times. Slow
+code misses it every time, a busy machine now and then."""
 
 TRIES = 3
 
@@ -12,5 +13,6 @@ def least(most, measure):
 
 
 def in_time(attempt):
-    """Whether one of up to three attempts succeeds. For a test that has to act in time itself: a client that sends a byte before it counts as silent."""
+    """Whether one of up to three attempts succeeds. For a test that has to act in time itself: a
+    client that sends a byte before it counts as silent."""
     return any(attempt() for _ in range(TRIES))

@@ -1,9 +1,10 @@
-"""Turns of a session: a pair of a request and its reply, each a call that makes the line of a tag. The object is that of number 1 where none is named."""
+"""Turns of a session: a pair of a request and its reply, each a call that makes the line of a tag.
+The object is that of number 1 where none is named."""
 import struct
 
-import wire
-from codes import BAD_INDEX, UNKNOWN_NAME
-from running import CREATE
+from tests.support import wire
+from tests.support.codes import BAD_INDEX, UNKNOWN_NAME
+from tests.support.running import CREATE
 
 NO_INDEX = wire.oaut.NO_INDEX
 COCLASS = bytes.fromhex("443322116655887799aabbccddeeff03")
@@ -25,12 +26,21 @@ DOUBLE = 5
 FOUR = i4(4)
 # a value of a type outside the profile
 HALF = struct.pack("<IIHHHHIId", 4, 0, DOUBLE, 0, 0, 0, DOUBLE, 0, 0.5)
-HI = bytes.fromhex("0500000000000000080000000000000008000000000002000200000004000000" "0200000048006900")
-MISSED, NO_VALUE, NO_TEXT = wire.scalar(wire.ERROR, 0x8002_0004), wire.scalar(wire.EMPTY), wire.scalar(wire.BSTR)
+HI = bytes.fromhex(
+    "0500000000000000080000000000000008000000000002000200000004000000" "0200000048006900"
+)
+MISSED, NO_VALUE, NO_TEXT = (
+    wire.scalar(wire.ERROR, 0x8002_0004),
+    wire.scalar(wire.EMPTY),
+    wire.scalar(wire.BSTR),
+)
 
 
 def calls(dispid, flags, named, values, code=0, index=NO_INDEX):
-    return (lambda tag: wire.invoke(tag, 1, dispid, flags, named, values), lambda tag: wire.reply(tag, code, index))
+    return (
+        lambda tag: wire.invoke(tag, 1, dispid, flags, named, values),
+        lambda tag: wire.reply(tag, code, index),
+    )
 
 
 def puts(dispid, value, code=0, index=NO_INDEX):
@@ -38,12 +48,18 @@ def puts(dispid, value, code=0, index=NO_INDEX):
 
 
 def gets(dispid, value):
-    return (lambda tag: wire.get(tag, 1, dispid), lambda tag: wire.reply(tag, fields=wire.field(value)))
+    return (
+        lambda tag: wire.get(tag, 1, dispid),
+        lambda tag: wire.reply(tag, fields=wire.field(value)),
+    )
 
 
 def reads(dispid, named, values, value):
     """A get with arguments, and the value that it tells."""
-    return (lambda tag: wire.invoke(tag, 1, dispid, 2, named, values), lambda tag: wire.reply(tag, fields=wire.field(value)))
+    return (
+        lambda tag: wire.invoke(tag, 1, dispid, 2, named, values),
+        lambda tag: wire.reply(tag, fields=wire.field(value)),
+    )
 
 
 def through(last, object, dispid, flags, named, values, code=0, value=None):
@@ -57,7 +73,8 @@ def through(last, object, dispid, flags, named, values, code=0, value=None):
 
 def creates(number):
     return (
-        lambda tag: (struct.pack("<I", tag) + bytes.fromhex(CREATE.decode())[4:]).hex().encode() + b"\n",
+        lambda tag: (struct.pack("<I", tag) + bytes.fromhex(CREATE.decode())[4:]).hex().encode()
+        + b"\n",
         lambda tag: wire.reply(tag, fields=struct.pack("<II", number, 0)),
     )
 
@@ -72,7 +89,10 @@ def lists(*numbers):
 
 def of(number, dispid, value, code=0):
     """A get of an object's property."""
-    return (lambda tag: wire.get(tag, number, dispid), lambda tag: wire.reply(tag, code, fields=b"" if code else wire.field(value)))
+    return (
+        lambda tag: wire.get(tag, number, dispid),
+        lambda tag: wire.reply(tag, code, fields=b"" if code else wire.field(value)),
+    )
 
 
 def puts_of(number, dispid, value, code=0):
@@ -81,9 +101,15 @@ def puts_of(number, dispid, value, code=0):
 
 def looks_up(names, dispids):
     code = UNKNOWN_NAME if -1 in dispids else 0
-    return (lambda tag: wire.get_ids(tag, 1, names), lambda tag: wire.reply(tag, code, fields=wire.ids(dispids)))
+    return (
+        lambda tag: wire.get_ids(tag, 1, names),
+        lambda tag: wire.reply(tag, code, fields=wire.ids(dispids)),
+    )
 
 
 def describes(index, fields=None):
     code = BAD_INDEX if fields is None else 0
-    return (lambda tag: wire.type_info(tag, index), lambda tag: wire.reply(tag, code, fields=fields or b""))
+    return (
+        lambda tag: wire.type_info(tag, index),
+        lambda tag: wire.reply(tag, code, fields=fields or b""),
+    )

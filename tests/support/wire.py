@@ -1,11 +1,8 @@
-"""Requests and replies as the lines that the cases and the benchmarks send and expect, by the codec of the client (clients/python/oaut).
+"""Requests and replies as the lines that the cases and the benchmarks send and expect, by the codec
+of the client (clients/python/oaut).
 What is to be refused is spelled here, from good bytes that are changed at one place."""
-import os
 import struct
-import sys
 
-ROOT = os.path.dirname(os.path.dirname(os.path.dirname(os.path.abspath(__file__))))
-sys.path.append(f"{ROOT}/clients/python")
 import oaut
 from oaut import ARRAY, CELLS, REFERENT
 
@@ -25,8 +22,9 @@ def changed(out, place, form, *numbers):
 
 
 def array(vt, bounds, cells, count=None, dimensions=None, second=REFERENT):
-    """The field of an array. `count`, `dimensions` and `second` spoil it: what stands for the number of cells, of bounds, and the second
-    referent. Of a type without arrays it is one of I4 under that type's number."""
+    """The field of an array. `count`, `dimensions` and `second` spoil it: what stands for the
+    number of cells, of bounds, and the second referent. Of a type without arrays it is one of I4
+    under that type's number."""
     out = oaut.array_field(vt if vt in CELLS else I4, bounds, cells)
     if vt not in CELLS:
         out = changed(changed(out, 8, "H", ARRAY + vt & 0xFFFF), 42, "H", vt)
@@ -83,8 +81,11 @@ def live_objects(tag):
 
 
 def objects(coclass, numbers):
-    """The fields of a reply to a LIST of objects of one coclass, whose GUID is spelled so on the wire."""
-    return struct.pack("<II", len(numbers), 0) + b"".join([struct.pack("<II", number, 0) + coclass for number in numbers])
+    """The fields of a reply to a LIST of objects of one coclass, whose GUID is spelled so on the
+    wire."""
+    return struct.pack("<II", len(numbers), 0) + b"".join(
+        [struct.pack("<II", number, 0) + coclass for number in numbers]
+    )
 
 
 def reply(tag, code=0, index=oaut.NO_INDEX, fields=b""):
@@ -99,12 +100,20 @@ def ids(dispids):
 
 def parameter(vt, flags, name, default=None):
     """A parameter of a description; flag 0x20 comes with a default."""
-    return struct.pack("<HHI", vt, flags, 0) + string(name) + (b"" if default is None else field(default))
+    return (
+        struct.pack("<HHI", vt, flags, 0)
+        + string(name)
+        + (b"" if default is None else field(default))
+    )
 
 
 def member(dispid, kind, flags, vt, name, parameters=()):
     """A member of a description."""
-    return struct.pack("<iHHHHI", dispid, kind, flags, vt, len(parameters), 0) + string(name) + b"".join(parameters)
+    return (
+        struct.pack("<iHHHHI", dispid, kind, flags, vt, len(parameters), 0)
+        + string(name)
+        + b"".join(parameters)
+    )
 
 
 def interface(guid, name, members):
@@ -113,10 +122,17 @@ def interface(guid, name, members):
 
 
 def replacement(tag, text, length=None, more=b""):
-    """A REPLACE LIBRARY, as a line. `length` and `more` spoil it: what stands for the text's length, and bytes behind its padding."""
-    return line(tag, struct.pack("<HHII", 12, 0, len(text) if length is None else length, 0) + aligned(text, 8) + more)
+    """A REPLACE LIBRARY, as a line. `length` and `more` spoil it: what stands for the text's
+    length, and bytes behind its padding."""
+    return line(
+        tag,
+        struct.pack("<HHII", 12, 0, len(text) if length is None else length, 0)
+        + aligned(text, 8)
+        + more,
+    )
 
 
 def lost(tag, guid, dispid):
-    """The reply to one that is refused for what it would lose: the GUID, spelled as on the wire, and the DISPID, or -1."""
+    """The reply to one that is refused for what it would lose: the GUID, spelled as on the wire,
+    and the DISPID, or -1."""
     return reply(tag, 0x8007_0057, fields=guid + struct.pack("<iI", dispid, 0))

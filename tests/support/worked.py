@@ -1,9 +1,8 @@
-"""The worked cases as requests, without their tags, on the model's library: object 1 is an Item where none else is named. What they are answered is the model's to say."""
+"""The worked cases as requests, without their tags, on the model's library: object 1 is an Item
+where none else is named. What they are answered is the model's to say."""
 import struct
 import uuid
 
-from model import BSTR, CY, DECIMAL, EMPTY, ERROR, FIRST_ONE, I1, I2, I4, I8, ITEM, LIBRARY, NULL, PLAIN, RANGES, SCALARS, SECOND, UI8, VARIANT, first_library
-from wire import array, changed, oaut, scalar
 from oaut import (
     CELLS,
     GETELEM,
@@ -21,8 +20,43 @@ from oaut import (
     ask_release,
     ask_type_info,
 )
+from tests.support.model import (
+    BSTR,
+    CY,
+    DECIMAL,
+    EMPTY,
+    ERROR,
+    FIRST_ONE,
+    I1,
+    I2,
+    I4,
+    I8,
+    ITEM,
+    LIBRARY,
+    NULL,
+    PLAIN,
+    RANGES,
+    SCALARS,
+    SECOND,
+    UI8,
+    VARIANT,
+    first_library,
+)
+from tests.support.wire import array, changed, oaut, scalar
 
-COUNT, NAME, PRICE, EXACT, FLAG, VERSION, ANY, GRID, CELL, CLEAR, WIDE = 1, 2, 3, 4, 5, 6, 7, 8, 9, 10, -5
+COUNT, NAME, PRICE, EXACT, FLAG, VERSION, ANY, GRID, CELL, CLEAR, WIDE = (
+    1,
+    2,
+    3,
+    4,
+    5,
+    6,
+    7,
+    8,
+    9,
+    10,
+    -5,
+)
 VALUES, WORDS, SUMS, ONLY = 2, 3, 4, 5  # of the other interface
 HI = "Hi".encode("utf-16-le")
 LETTER = b"k\0"
@@ -46,7 +80,14 @@ def element(dispid, *indices, of=1, interface=oaut.DEFAULT):
 
 
 def put_element(dispid, indices, field, of=1, interface=oaut.DEFAULT, arguments=()):
-    return call(PUTELEM, dispid, oaut.indices_field(indices) + oaut.variant_field(field), of, interface, arguments)
+    return call(
+        PUTELEM,
+        dispid,
+        oaut.indices_field(indices) + oaut.variant_field(field),
+        of,
+        interface,
+        arguments,
+    )
 
 
 def redim(dispid, count, lowest, of=1, interface=oaut.DEFAULT):
@@ -83,7 +124,11 @@ SCALAR_PROPERTIES = [
     get(EXACT),
     put(EXACT, exact(29, 0, 1)),
     put(EXACT, exact(0, 1, 1)),
-    *(it for number in (25_000, 35_000, -25_000) for it in (put(COUNT, scalar(CY, number)), get(COUNT))),
+    *(
+        it
+        for number in (25_000, 35_000, -25_000)
+        for it in (put(COUNT, scalar(CY, number)), get(COUNT))
+    ),
     put(COUNT, scalar(I8, 2**31)),
     get(COUNT),
     put(FLAG, scalar(11, 1)),
@@ -192,7 +237,16 @@ REFUSALS = [
     get(COUNT, interface=ITEM.bytes_le),
     put(COUNT, i4(1) + b"\0"),
 ]
-GOES = [ask_create(PLAIN), call(LOCK, GRID, of=2), ask_release(2), call(UNLOCK, GRID, of=2), ask_release(2), get(COUNT, 2), ask_create(ITEM), ask_list()]
+GOES = [
+    ask_create(PLAIN),
+    call(LOCK, GRID, of=2),
+    ask_release(2),
+    call(UNLOCK, GRID, of=2),
+    ask_release(2),
+    get(COUNT, 2),
+    ask_create(ITEM),
+    ask_list(),
+]
 ALL = [*CREATED, *SCALAR_PROPERTIES, *PARAMETERS, *ARRAYS, *NEVER_PUT, *NAMES, *REFUSALS, *GOES]
 
 
@@ -203,7 +257,10 @@ def wider_library():
 
 
 # a library with one more coclass, which keeps all that the model's has, and a text that is none
-WIDER = LIBRARY.rstrip()[:-2] + b"[uuid(11223344-5566-7788-99AA-BBCCDDEEFF07)] coclass Third { dispinterface DMore; }; };"
+WIDER = (
+    LIBRARY.rstrip()[:-2]
+    + b"[uuid(11223344-5566-7788-99AA-BBCCDDEEFF07)] coclass Third { dispinterface DMore; }; };"
+)
 THIRD = uuid.UUID("11223344-5566-7788-99aa-bbccddeeff07")
 NO_LIBRARY = LIBRARY.replace(b"SAFEARRAY(short)", b"SAFEARRAY(void)")
 REPLACED = [
@@ -220,12 +277,26 @@ REPLACED = [
 
 # a value of each type
 SCALAR_VALUES = {
-    vt: {EMPTY: None, NULL: None, BSTR: HI, DECIMAL: (4, 0x80, 2**95 + 12_345), ERROR: 0x8002_0004, 11: 0xFFFF}.get(vt, RANGES.get(vt, (0, 0))[1])
+    vt: {
+        EMPTY: None,
+        NULL: None,
+        BSTR: HI,
+        DECIMAL: (4, 0x80, 2**95 + 12_345),
+        ERROR: 0x8002_0004,
+        11: 0xFFFF,
+    }.get(vt, RANGES.get(vt, (0, 0))[1])
     for vt in SCALARS
 }
-ARRAY_VALUES = {vt: [(I2, 7), (BSTR, HI)] if vt == VARIANT else [SCALAR_VALUES[vt]] * 2 for vt in CELLS}
+ARRAY_VALUES = {
+    vt: [(I2, 7), (BSTR, HI)] if vt == VARIANT else [SCALAR_VALUES[vt]] * 2 for vt in CELLS
+}
 EVERY_TYPE = [ask_create(ITEM)]
 for vt in SCALARS:
     EVERY_TYPE += [put(ANY, scalar(vt, SCALAR_VALUES[vt])), get(ANY)]
 for vt in CELLS:
-    EVERY_TYPE += [put(ANY, array(vt, [(2, 0)], ARRAY_VALUES[vt])), get(ANY), element(ANY, 1), redim(ANY, 3, 0)]
+    EVERY_TYPE += [
+        put(ANY, array(vt, [(2, 0)], ARRAY_VALUES[vt])),
+        get(ANY),
+        element(ANY, 1),
+        redim(ANY, 3, 0),
+    ]

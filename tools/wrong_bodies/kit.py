@@ -1,4 +1,5 @@
-"""The kit: its own library for crates, as rt uses it, and the libraries below the crates that are tried."""
+"""The kit: its own library for crates, as rt uses it, and the libraries below the crates that are
+tried."""
 import importlib.machinery
 import importlib.util
 import os
@@ -9,7 +10,9 @@ import sys
 
 def load_rtlib():
     """Returns the kit's own library for crates and its prover's words."""
-    said = subprocess.run(["rt", "doc"], stdout=subprocess.PIPE, text=True, check=True).stdout.strip()
+    said = subprocess.run(
+        ["rt", "doc"], stdout=subprocess.PIPE, text=True, check=True
+    ).stdout.strip()
     path = f"{os.path.dirname(said)}/bin/rtlib.py"
     loader = importlib.machinery.SourceFileLoader("rtlib", path)
     spec = importlib.util.spec_from_loader("rtlib", loader)
@@ -22,7 +25,11 @@ def load_rtlib():
 def files_of(crate, part):
     """Returns the files of a crate's edits in the folder must-fail or wrong-bodies."""
     folder = f"{crate.folder}/{part}"
-    return [f"{folder}/{it}" for it in sorted(os.listdir(folder)) if it.endswith(".edit")] if os.path.isdir(folder) else []
+    return (
+        [f"{folder}/{it}" for it in sorted(os.listdir(folder)) if it.endswith(".edit")]
+        if os.path.isdir(folder)
+        else []
+    )
 
 
 def newest(crate):
@@ -35,8 +42,9 @@ def newest(crate):
 
 
 def build_below(crates, is_proved):
-    """Builds what is lacking of the libraries below these crates, and returns the name of one that is not proved, or None. The output of rt ci has no stamp: it
-    is used if it is newer than its sources."""
+    """Builds what is lacking of the libraries below these crates, and returns the name of one that
+    is not proved, or None. The output of rt ci has no stamp: it is used if it is newer than its
+    sources."""
     built = {}
     for crate in crates:
         for dep in crate.below():

@@ -1,14 +1,25 @@
-"""The contents of a crate's source files: their types and their functions, in rt fmt's layout, by the names that the prover has for them."""
+"""The contents of a crate's source files: their types and their functions, in rt fmt's layout, by
+the names that the prover has for them."""
 import os
 import re
 
 
 class Function:
-    """A function of a source file: the path that the prover prints for it, its lines and its text, and whether it is a trait's."""
+    """A function of a source file: the path that the prover prints for it, its lines and its text,
+    and whether it is a trait's."""
 
-    def __init__(self, modules, of_type, of_trait, name, first, last, start, end, text, is_of_trait):
+    def __init__(
+        self, modules, of_type, of_trait, name, first, last, start, end, text, is_of_trait
+    ):
         self.modules, self.of_type, self.of_trait, self.name = modules, of_type, of_trait, name
-        self.first, self.last, self.start, self.end, self.text, self.is_of_trait = first, last, start, end, text, is_of_trait
+        self.first, self.last, self.start, self.end, self.text, self.is_of_trait = (
+            first,
+            last,
+            start,
+            end,
+            text,
+            is_of_trait,
+        )
 
     @property
     def path(self):
@@ -16,10 +27,15 @@ class Function:
         return "::".join([*self.modules, *owner, self.name])
 
     def body_at(self):
-        """Returns the place in the text of the line that opens the body, or -1 if there is no such line."""
+        """Returns the place in the text of the line that opens the body, or -1 if there is no such
+        line."""
         depth, at = len(self.text) - len(self.text.lstrip()), 0
         for line in self.text.split("\n"):
-            if line[depth : depth + 1].strip() and not line[:depth].strip() and (line[depth:] == "{" or line.endswith(" {")):
+            if (
+                line[depth : depth + 1].strip()
+                and not line[:depth].strip()
+                and (line[depth:] == "{" or line.endswith(" {"))
+            ):
                 return at
             at += len(line) + 1
         return -1
@@ -35,9 +51,14 @@ class Function:
         return f"{self.text[:at]}{opening} loop {{}} }}" + "\n" * len(others)
 
     def head_in(self, text):
-        """Returns the line of a file's text on which what is right above the function begins: its attributes, at which the prover tells some goals."""
+        """Returns the line of a file's text on which what is right above the function begins: its
+        attributes, at which the prover tells some goals."""
         lines, first = text.split("\n"), self.first
-        while first > 1 and lines[first - 2].strip() and not lines[first - 2].endswith(("{", "}", ";")):
+        while (
+            first > 1
+            and lines[first - 2].strip()
+            and not lines[first - 2].endswith(("{", "}", ";"))
+        ):
             first -= 1
         return first
 
@@ -45,10 +66,13 @@ class Function:
         """Returns a second function beside this one: its contract, with this text of it."""
         name = f"{self.name}_twin{number}"
         text = re.sub(rf"\bfn {self.name}\b", f"fn {name}", text, count=1)
-        return Function(self.modules, self.of_type, self.of_trait, name, 0, 0, 0, 0, text, self.is_of_trait)
+        return Function(
+            self.modules, self.of_type, self.of_trait, name, 0, 0, 0, 0, text, self.is_of_trait
+        )
 
     def is_told_by(self, told):
-        """Whether a name of the prover's, without the crate's, is this function's or that of a closure in it."""
+        """Whether a name of the prover's, without the crate's, is this function's or that of a
+        closure in it."""
         parts = told.split("::")
         rest = parts[len(self.modules) :]
         if parts[: len(self.modules)] != self.modules or not rest:
@@ -92,11 +116,14 @@ def owner_of(kind, rest):
     named, _, of = head.strip().partition(" for ")
     if not of:
         return without_generics(named).strip().split("::")[-1], ""
-    # (of the trait's own arguments the prover says the last word of each: From<AllocFailed<T>> is FromAllocFailed)
+    # (of the trait's own arguments the prover says the last word of each: From<AllocFailed<T>> is
+    # FromAllocFailed)
     trait, _, arguments = named.strip().partition("<")
     words = [trait, *re.split(r"[,&\s]+", without_generics(arguments.rpartition(">")[0]))]
     of_name = name_of(without_generics(of).strip())
-    return of_name[:1].upper() + of_name[1:], "".join(re.sub(r"\W", "", it.split("::")[-1]) for it in words)
+    return of_name[:1].upper() + of_name[1:], "".join(
+        re.sub(r"\W", "", it.split("::")[-1]) for it in words
+    )
 
 
 def name_of(of_type):
@@ -119,9 +146,11 @@ def modules_of(path):
 
 
 def functions_of(path, text, homes):
-    """Returns the functions of a file in rt fmt's layout, by which an item ends at a brace that is as deep as its first line.
+    """Returns the functions of a file in rt fmt's layout, by which an item ends at a brace that is
+    as deep as its first line.
 
-    The prover names a type's own method by the module of the type, wherever its impl is: homes has the modules of each type of the crate."""
+    The prover names a type's own method by the module of the type, wherever its impl is: homes has
+    the modules of each type of the crate."""
     modules = modules_of(path)
     lines, starts, at = text.split("\n"), [], 0
     for line in lines:
@@ -131,7 +160,11 @@ def functions_of(path, text, homes):
     for number, line in enumerate(lines):
         depth = len(line) - len(line.lstrip())
         if line.strip() and not line.lstrip().startswith("//"):
-            owners = [it for it in owners if depth > it[0] or (depth == it[0] and not re.match(r"\s*[})]", line) and it[2])]
+            owners = [
+                it
+                for it in owners
+                if depth > it[0] or (depth == it[0] and not re.match(r"\s*[})]", line) and it[2])
+            ]
         impl = IMPL.match(line)
         if impl and not line.lstrip().startswith("//"):
             kind = impl[2].split()[-1]
@@ -143,10 +176,14 @@ def functions_of(path, text, homes):
         last = number
         if owners and owners[-1][3] and depth > owners[-1][0] and is_declared(lines, number, fn[1]):
             continue
-        if not (line.rstrip().endswith("}") and line.count("{") == line.count("}") and "{" in line) and not line.rstrip().endswith(";"):
+        if not (
+            line.rstrip().endswith("}") and line.count("{") == line.count("}") and "{" in line
+        ) and not line.rstrip().endswith(";"):
             last = number + 1
             while last < len(lines) - 1 and not (
-                lines[last].startswith(fn[1]) and lines[last][len(fn[1]) :].rstrip() in ("}", "{}", "};") or is_whole(lines[last], fn[1])
+                lines[last].startswith(fn[1])
+                and lines[last][len(fn[1]) :].rstrip() in ("}", "{}", "};")
+                or is_whole(lines[last], fn[1])
             ):
                 last += 1
         of_type, of_trait = owners[-1][1] if owners and depth > owners[-1][0] else ("", "")
@@ -155,12 +192,26 @@ def functions_of(path, text, homes):
         # (what Drop has is a type's own in the prover's words)
         of_trait = "" if of_trait == "Drop" else of_trait
         home = modules if of_trait else homes.get(of_type, modules)
-        found.append(Function(home, of_type, of_trait, fn[2], number + 1, last + 1, starts[number], end, text[starts[number] : end], is_of_trait))
+        found.append(
+            Function(
+                home,
+                of_type,
+                of_trait,
+                fn[2],
+                number + 1,
+                last + 1,
+                starts[number],
+                end,
+                text[starts[number] : end],
+                is_of_trait,
+            )
+        )
     return found
 
 
 def is_declared(lines, number, indent):
-    """Whether a trait's function has no body: a line ends in a semicolon before any brace that is as deep as its first line."""
+    """Whether a trait's function has no body: a line ends in a semicolon before any brace that is
+    as deep as its first line."""
     for line in lines[number:]:
         if line.startswith(indent + "{"):
             return False
@@ -171,7 +222,11 @@ def is_declared(lines, number, indent):
 
 def is_whole(line, indent):
     """Whether the line is a body of one line, as deep as its function: '{ .. }'."""
-    return line.startswith(indent + "{") and line.rstrip().endswith("}") and line.count("{") == line.count("}")
+    return (
+        line.startswith(indent + "{")
+        and line.rstrip().endswith("}")
+        and line.count("{") == line.count("}")
+    )
 
 
 class Sources:
@@ -182,7 +237,11 @@ class Sources:
         paths = []
         for at, folders, names in os.walk(f"{folder}/src"):
             folders.sort()
-            paths += [os.path.relpath(f"{at}/{name}", folder) for name in sorted(names) if name.endswith(".rt")]
+            paths += [
+                os.path.relpath(f"{at}/{name}", folder)
+                for name in sorted(names)
+                if name.endswith(".rt")
+            ]
         for path in paths:
             self.homes |= {it: modules_of(path) for it in TYPE.findall(self.text(path))}
         for path in paths:

@@ -5,7 +5,7 @@ use Rattle.std.specs.Bool.{Decides}
 use Rattle.std.proofs.lemmas.Float.{T_from_true}
 use Rattle.oa_model.specs.declared.bound.Bound.{Bound}
 use Rattle.oa_array.specs.Boxes.{InBounds, IsWithin}
-use Rattle.oa_array.specs.Within.{in_bounds, within}
+use Rattle.oa_array.specs.promise.Within.{in_bounds, within}
 
 is_true : (b : Bool) → T b → b ≡ true
 is_true true t = refl

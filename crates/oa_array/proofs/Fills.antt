@@ -6,7 +6,7 @@ use Rattle.std.proofs.lemmas.Bool.{cases_lt}
 use Rattle.std.proofs.lemmas.Option.{none-some, slice_get-get_or, unwrap_or-slice_get}
 use Rattle.std.proofs.lemmas.List.{get_or_append_left, get_or-append_right, get_or-take, get_or_past}
 use Rattle.std.proofs.lemmas.List.FromFn.{fill_by_all}
-use Rattle.oa_array.specs.Arrays.{kept_by_position}
+use Rattle.oa_array.specs.promise.Arrays.{kept_by_position}
 use Rattle.std.specs.List.{FoldsTo, enumerate_from}
 use Rattle.oa_cells.specs.Fills.{IsFilledBy, IsStoppedBy}
 use Rattle.oa_array.proofs.Counting.{same_inside}
@@ -85,14 +85,17 @@ module _ {S X E : Type 0} where
       → IfOk r (λ c. length c ≡ n) → IfOk r (λ c. IsFilledBy step first 0 c) → IfErr r (λ e. (e ≡ memory) ⊎ IsStoppedBy step first 0 n e)
       → (cell : S → X) → ((p : S) (i : ℕ) (x : X) (q : S) → step p i (Ok x) q → (x ≡ cell p) × (q ≡ p))
       → ((p : S) (i : ℕ) (e : E) (q : S) → step p i (Err e) q → ⊥) → MatchResult r (λ c. c ≡ replicate n (cell first)) (λ e. e ≡ memory)
-  zeros_answer step first (Ok c) n memory count filled error cell says never = replicate_is c n (cell first) count (each_filled filled (λ p i x. x ≡ cell p) says)
+  zeros_answer step first (Ok c) n memory count filled error cell says never =
+      replicate_is c n (cell first) count (each_filled filled (λ p i x. x ≡ cell p) says)
   zeros_answer step first (Err e) n memory count filled error cell says never = ⊎_elim (λ m. m) (λ s. absurd (never_stopped s never)) error
 
   -- Copies of given elements, if the closure returns such copies.
   pub copies_answer : (step : S → ℕ → Result X E → S → Type 0) (first : S) (r : Result (List X) E) (from : S → List X) (n : ℕ)
       → n ≡ length (from first) → IfOk r (λ c. length c ≡ n) → IfOk r (λ c. IsFilledBy step first 0 c)
       → ((p : S) (i : ℕ) (x : X) (q : S) → step p i (Ok x) q → (slice_get (from p) i ≡ Some x) × (q ≡ p)) → IfOk r (λ c. c ≡ from first)
-  copies_answer step first (Ok c) from n e count filled says = same_cells c (from first) (count ∙ e) (λ k x at. ap (slice_get (from first)) (sym (zero-add k)) ∙ each_filled filled (λ p i z. slice_get (from p) i ≡ Some z) says k x at)
+  copies_answer step first (Ok c) from n e count filled says =
+      same_cells c (from first) (count ∙ e) (λ k x at. ap (slice_get (from first)) (sym (zero-add k))
+      ∙ each_filled filled (λ p i z. slice_get (from p) i ≡ Some z) says k x at)
   copies_answer step first (Err e) from n m count filled says = tt
 
   -- Elements kept by position and zero values after them, if the closure returns zero values only.
@@ -103,5 +106,7 @@ module _ {S X E : Type 0} where
       → ((p : S) (i : ℕ) (x : X) (q : S) → step p i (Ok x) q → (x ≡ cell p) × (q ≡ p))
       → ((p : S) (i : ℕ) (e : E) (q : S) → step p i (Err e) q → ⊥)
       → MatchResult r (λ _. new ≡ kept_by_position (cell first) n old) (λ e. (e ≡ memory) × (new ≡ old))
-  resized_answer step first (Ok _) old new n memory count filled same error cell says never = kept_is (cell first) n old filled.0 new filled.1 count (each_filled filled.2 (λ p i x. x ≡ cell p) says)
-  resized_answer step first (Err e) old new n memory count filled same error cell says never = (⊎_elim (λ m. m) (λ s. absurd (never_stopped s never)) error, same)
+  resized_answer step first (Ok _) old new n memory count filled same error cell says never = kept_is (cell first) n old filled.0 new filled.1 count
+      (each_filled filled.2 (λ p i x. x ≡ cell p) says)
+  resized_answer step first (Err e) old new n memory count filled same error cell says never =
+      (⊎_elim (λ m. m) (λ s. absurd (never_stopped s never)) error, same)

@@ -12,7 +12,8 @@ use Rattle.std.specs.List.{range_with_len}
 use Rattle.std.specs.Cmp.{int_cmp_is}
 use Rattle.std.specs.Cmp.Lexicographic.{slice_cmp}
 use Rattle.oa_model.specs.declared.bound.Bound.{Bound}
-use Rattle.oa_array.specs.Boxes.{IsWithin, InBounds, index_lists, box_size, comes_before, position_of}
+use Rattle.oa_array.specs.Boxes.{IsWithin, InBounds}
+use Rattle.oa_array.specs.promise.Boxes.{index_lists, box_size, comes_before, position_of}
 use Rattle.oa_array.proofs.Counting.{count-append, count-map, count_all, count_none, get_left, get_right, option_map-Some, same_inside}
 
 -- index lists that begin with one index, and those that begin with the n indices from low + a on
@@ -82,11 +83,13 @@ at_row low rest a (suc n) zero q h g =
     let row = length-map rest (λ tail. (low +ℤ pos a) ∷ tail) in
     let at : 0 * length rest + q ≡ q = omega (arith, zero-mul (length rest)) in
     let first : a ≡ a + 0 = omega arith in
-    ap (slice_get (rows low rest a (suc n))) at ∙ get_left (with_first rest (low +ℤ pos a)) (rows low rest (a + 1) n) q (omega (arith, row, g)) ∙ ap (λ i. slice_get (with_first rest (low +ℤ pos i)) q) first
+    ap (slice_get (rows low rest a (suc n))) at ∙ get_left (with_first rest (low +ℤ pos a)) (rows low rest (a + 1) n) q (omega (arith, row, g))
+    ∙ ap (λ i. slice_get (with_first rest (low +ℤ pos i)) q) first
 at_row low rest a (suc n) (suc d) q h g =
     let row = length-map rest (λ tail. (low +ℤ pos a) ∷ tail) in
     let next : a + 1 + d ≡ a + suc d = omega arith in
-    get_right (with_first rest (low +ℤ pos a)) (rows low rest (a + 1) n) (d * length rest + q) (suc d * length rest + q) (omega (arith, row, suc-mul d (length rest)))
+    get_right (with_first rest (low +ℤ pos a)) (rows low rest (a + 1) n) (d * length rest + q) (suc d * length rest + q)
+    (omega (arith, row, suc-mul d (length rest)))
     ∙ at_row low rest (a + 1) n d q (omega (arith, h)) g ∙ ap (λ i. slice_get (with_first rest (low +ℤ pos i)) q) next
 
 -- A place of the rows has an index of the run, followed by the indices at a place of the other dimensions.
@@ -137,7 +140,8 @@ row_found low rest a (suc n) p index e =
     ⊎_elim
     (λ h.
     let got = sym (get_left first more p (omega (arith, row, h))) ∙ e in
-    at_first low rest a n p index (option_map-Some (λ tail. (low +ℤ pos a) ∷ tail) (slice_get rest p) index (sym (slice_get-map (λ tail. (low +ℤ pos a) ∷ tail) rest p) ∙ got)))
+    at_first low rest a n p index (option_map-Some (λ tail. (low +ℤ pos a) ∷ tail) (slice_get rest p) index
+    (sym (slice_get-map (λ tail. (low +ℤ pos a) ∷ tail) rest p) ∙ got)))
     (λ h.
     let apart : p ≡ length rest + (p - length rest) = omega (arith, h) in
     let got = sym (get_right first more (p - length rest) p (omega (arith, row, apart))) ∙ e in
@@ -182,7 +186,13 @@ position-below (bound ∷ rest) [] h = absurd h
 position-below (bound ∷ rest) (i ∷ tail) h =
     let w = IsWithin-above bound i h.0 in
     let P : ℤ → Type 0 = λ j. position_of (bound ∷ rest) (j ∷ tail) < box_size (bound ∷ rest) in
-    subst P (sym w.1.0) (omega (arith, box_size-cons bound rest, position_of-cons bound rest w.0 tail w.1.1, mul-add-lt w.0 (box_size rest) (position_of rest tail) bound.count w.1.1 (position-below rest tail h.1)))
+    subst P (sym w.1.0) (omega (
+      arith,
+      box_size-cons bound rest,
+      position_of-cons bound rest w.0 tail w.1.1,
+      mul-add-lt w.0 (box_size rest)
+          (position_of rest tail) bound.count w.1.1 (position-below rest tail h.1),
+    ))
 
 member-nil : slice_get (index_lists []) (position_of [] []) ≡ Some []
 unfolding index_lists position_of
@@ -206,7 +216,8 @@ member_at (bound ∷ rest) [] h = absurd h
 member_at (bound ∷ rest) (i ∷ tail) h =
     let w = IsWithin-above bound i h.0 in
     let P : ℤ → Type 0 = λ j. slice_get (index_lists (bound ∷ rest)) (position_of (bound ∷ rest) (j ∷ tail)) ≡ Some (j ∷ tail) in
-    subst P (sym w.1.0) (ap (slice_get (index_lists (bound ∷ rest))) (position_of-cons bound rest w.0 tail w.1.1) ∙ member-cons bound rest w.0 (position_of rest tail) tail w.1.1 (member_at rest tail h.1))
+    subst P (sym w.1.0) (ap (slice_get (index_lists (bound ∷ rest))) (position_of-cons bound rest w.0 tail w.1.1)
+    ∙ member-cons bound rest w.0 (position_of rest tail) tail w.1.1 (member_at rest tail h.1))
 
 found-nil : (index : List ℤ) (place : ℕ) → slice_get (index_lists []) place ≡ Some index → InBounds [] index × (position_of [] index ≡ place)
 unfolding index_lists position_of
@@ -230,7 +241,10 @@ found-here bound rest index place s below =
     let list : index ≡ (bound.lower +ℤ pos s.above) ∷ s.tail = s.list ∙ ap (λ k. (bound.lower +ℤ pos k) ∷ s.tail) (zero-add s.above) in
     let P : List ℤ → Type 0 = λ l. InBounds (bound ∷ rest) l × (position_of (bound ∷ rest) l ≡ place) in
     let size = ap (λ n. s.above * n) (box_size-members rest) in
-    subst P (sym list) ((IsWithin-at bound s.above s.inside, below.0), omega (arith, position_of-cons bound rest s.above s.tail s.inside, below.1, s.place, size))
+    subst P (sym list) (
+      (IsWithin-at bound s.above s.inside, below.0),
+      omega (arith, position_of-cons bound rest s.above s.tail s.inside, below.1, s.place, size),
+    )
 
 -- Every index list of the box is within the bounds, at the place that is its position.
 pub member_found : (bounds : List Bound) (index : List ℤ) (place : ℕ) → slice_get (index_lists bounds) place ≡ Some index

@@ -8,11 +8,11 @@ use Rattle.std.proofs.Common.{⊎_elim}
 use Rattle.std.proofs.lemmas.List.{get_or_past}
 use Rattle.std.proofs.lemmas.List.Elements.{All-from_get_or, All-get_or}
 use Rattle.std.proofs.lemmas.List.FromFn.{length-map-range_with_len, get_or-map-range_with_len}
-use Rattle.oa_model.specs.Limits.{max_cells}
+use Rattle.oa_model.specs.promise.Limits.{max_cells}
 use Rattle.oa_model.specs.declared.bound.Bound.{Bound}
 use Rattle.oa_model.specs.declared.var_type.VarType.{VarType}
-use Rattle.oa_array.specs.Boxes.{box_size}
-use Rattle.oa_array.specs.Arrays.{IsArray, with_first, kept_by_position, redimensioned}
+use Rattle.oa_array.specs.promise.Boxes.{box_size}
+use Rattle.oa_array.specs.promise.Arrays.{IsArray, with_first, kept_by_position, redimensioned}
 
 pub length-kept : {X : Type 0} (blank : X) (n : ℕ) (cells : List X) → length (kept_by_position blank n cells) ≡ n
 unfolding kept_by_position

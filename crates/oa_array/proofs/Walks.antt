@@ -4,9 +4,10 @@ use Rattle.std.proofs.Common.{le-ltb, ne_eqb, List, [], ◌∷◌, ℤ, pos, ◌
 use Rattle.std.proofs.Common.{le-mul_of_pos_right, mul-zero, eq-zero-or-pos}
 use Rattle.std.proofs.lemmas.Bool.{cases_lt}
 use Rattle.std.specs.Bool.{then_some}
-use Rattle.oa_model.specs.Limits.{max_cells}
+use Rattle.oa_model.specs.promise.Limits.{max_cells}
 use Rattle.oa_model.specs.declared.bound.Bound.{Bound}
-use Rattle.oa_array.specs.Boxes.{InBounds, IsWithin, box_size, position_of}
+use Rattle.oa_array.specs.Boxes.{InBounds, IsWithin}
+use Rattle.oa_array.specs.promise.Boxes.{box_size, position_of}
 use Rattle.oa_array.proofs.Places.{box_size-nil, box_size-cons, position_of-nil, position_of-cons, IsWithin-at}
 
 -- ---- the size, up to 65,537
@@ -35,7 +36,8 @@ capped_at m n (suc rest) =
 pub size_goes_on : (bounds left : List Bound) (bound : Bound) (size : ℕ) → IsSizeSoFar bounds (bound ∷ left) size
     → IsSizeSoFar bounds left (min (size * bound.count) 65537)
 size_goes_on bounds left bound size s =
-    let whole : size * bound.count * box_size left ≡ size * box_size (bound ∷ left) = mul_assoc size bound.count (box_size left) ∙ ap (λ n. size * n) (sym (box_size-cons bound left)) in
+    let whole : size * bound.count * box_size left ≡ size * box_size (bound ∷ left) = mul_assoc size bound.count (box_size left)
+    ∙ ap (λ n. size * n) (sym (box_size-cons bound left)) in
     record {
       few = omega arith;
       rest = capped_at 65537 (size * bound.count) (box_size left) ∙ ap (min 65537) whole ∙ s.rest;
@@ -44,7 +46,8 @@ size_goes_on bounds left bound size s =
 pub size_begins : (first : Bound) (others : List Bound) (size : ℕ) → size ≡ min first.count 65537 → IsSizeSoFar (first ∷ others) others size
 size_begins first others size e =
     let one : 1 * first.count ≡ first.count = omega arith in
-    subst (IsSizeSoFar (first ∷ others) others) (ap (λ n. min n 65537) one ∙ sym e) (size_goes_on (first ∷ others) others first 1 (size_starts (first ∷ others)))
+    subst (IsSizeSoFar (first ∷ others) others) (ap (λ n. min n 65537) one ∙ sym e)
+    (size_goes_on (first ∷ others) others first 1 (size_starts (first ∷ others)))
 
 pub size_ends : (bounds : List Bound) (size : ℕ) → IsSizeSoFar bounds [] size → min 65537 (box_size bounds) ≡ size
 size_ends bounds size s =
@@ -65,7 +68,8 @@ pub place_goes_on : (bounds : List Bound) (index : List ℤ) (left : List Bound)
     → IsPlaceSoFar bounds index left given (place * bound.count + above)
 place_goes_on bounds index left given bound above place h s =
     let size = box_size-cons bound left in
-    let whole : place * box_size (bound ∷ left) ≡ place * bound.count * box_size left = ap (λ n. place * n) size ∙ sym (mul_assoc place bound.count (box_size left)) in
+    let whole : place * box_size (bound ∷ left) ≡ place * bound.count * box_size left = ap (λ n. place * n) size
+    ∙ sym (mul_assoc place bound.count (box_size left)) in
     let at = position_of-cons bound left above given h in
     let fits : above + 1 ≤ bound.count = omega (arith, h) in
     let row = mul-le-mul_right (box_size left) fits in
@@ -121,7 +125,8 @@ size_steps bounds left size bound more m n at_left em en s =
     subst R (sym (en ∙ ap (λ k. min (size * k) 65537) em)) (size_goes_on bounds more bound size (subst P at_left s))
 
 abbrev IsPlaceAnswer : List Bound → List ℤ → ℕ → Option ℕ → Type 0
-IsPlaceAnswer bounds index size r = MatchOption r (InBounds bounds index → ⊥) (λ place. InBounds bounds index × (place ≡ position_of bounds index) × (place < size))
+IsPlaceAnswer bounds index size r =
+    MatchOption r (InBounds bounds index → ⊥) (λ place. InBounds bounds index × (place ≡ position_of bounds index) × (place < size))
 
 place_answer : (bounds : List Bound) (index : List ℤ) (left : List Bound) (given : List ℤ) (place size : ℕ) → length left ≡ 0
     → size ≡ box_size bounds → IsPlaceSoFar bounds index left given place

@@ -1,25 +1,14 @@
--- The refusals of operations on arrays: when each occurs, and its code (MS-ERREF section 2.1). Their order is this
--- project's choice.
+-- Definitions for contracts and proofs, beside promise/Faults.
 use Rattle.std.specs.Prelude.{◌≡◌, ◌<◌, ◌≤◌, List, ℤ}
-use Rattle.oa_model.specs.Limits.{max_cells}
+use Rattle.oa_model.specs.promise.Limits.{max_cells}
 use Rattle.oa_model.specs.declared.bound.Bound.{Bound}
-use Rattle.oa_model.specs.declared.hresult.HResult.{HResult}
 use Rattle.oa_model.specs.declared.var_type.VarType.{VarType}
-use Rattle.oa_model.specs.Codes.{disp_e_badindex, disp_e_typemismatch, disp_e_arrayislocked, e_invalidarg, e_unexpected}
-use Rattle.oa_model.specs.Codes.{e_outofmemory}
-use Rattle.oa_array.specs.Arrays.{ArrayValue, IsArrayShape, with_first}
-use Rattle.oa_array.specs.Boxes.{InBounds, box_size}
+use Rattle.oa_array.specs.promise.Arrays.{ArrayValue, IsArrayShape, with_first}
+use Rattle.oa_array.specs.Boxes.{InBounds}
+use Rattle.oa_array.specs.promise.Boxes.{box_size}
 use Rattle.oa_array.specs.declared.fault.ArrayFault.{ArrayFault}
 use Rattle.oa_array.specs.declared.fault.ArrayFault.TheVariants.{BadIndex, TypeMismatch, IsLocked, InvalidArgument}
-use Rattle.oa_array.specs.declared.fault.ArrayFault.TheVariants.{Unexpected, Memory}
-
-abbrev pub array_code : ArrayFault → HResult
-array_code BadIndex = disp_e_badindex
-array_code TypeMismatch = disp_e_typemismatch
-array_code IsLocked = disp_e_arrayislocked
-array_code InvalidArgument = e_invalidarg
-array_code Unexpected = e_unexpected
-array_code Memory = e_outofmemory
+use Rattle.oa_array.specs.declared.fault.ArrayFault.TheVariants.{Memory}
 
 -- The refusals of `create`: there is no such array, or no memory for it.
 abbrev pub RefusesCreate : VarType → List Bound → ArrayFault → Type 0

@@ -5,6 +5,6 @@ use Rattle.oa_array.specs.declared.head.BoundList.{BoundList}
 use Rattle.oa_array.specs.declared.head.BoundList.TheVariants.{One, Many}
 
 -- The bounds in a list of them.
-abbrev pub listed : BoundList → List Bound
-listed (One bound) = bound ∷ []
-listed (Many all) = all.value.items
+abbrev pub bounds_in : BoundList → List Bound
+bounds_in (One bound) = bound ∷ []
+bounds_in (Many all) = all.value.items

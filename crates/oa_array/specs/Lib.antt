@@ -2,4 +2,4 @@ pub mod Arrays
 pub mod Boxes
 pub mod Faults
 pub mod Heads
-pub mod Within
+pub mod promise

@@ -1,14 +1,16 @@
 //! Safe arrays.
 ghost use Rattle.std.specs.Prelude.{◌≡◌, ◌+◌, ◌-◌, ◌<◌, ◌≤◌, Some, length, All, MatchOption, MatchResult, IfOk};
 ghost use Rattle.std.specs.Prelude.{replicate};
-ghost use Rattle.oa_array.specs.Boxes.{InBounds, box_size};
-ghost use Rattle.oa_array.specs.Arrays.{ArrayValue, IsArrayShape, IsArray, array_element, with_cell, with_locks, with_first, all_cells};
-ghost use Rattle.oa_array.specs.Arrays.{kept_by_position, redimensioned};
+ghost use Rattle.oa_array.specs.Boxes.{InBounds};
+ghost use Rattle.oa_array.specs.promise.Boxes.{box_size};
+ghost use Rattle.oa_array.specs.promise.Arrays.{ArrayValue, IsArrayShape, IsArray, array_element, with_cell};
+ghost use Rattle.oa_array.specs.promise.Arrays.{with_locks, with_first, kept_by_position, redimensioned};
+ghost use Rattle.oa_array.specs.Arrays.{all_cells};
 ghost use Rattle.oa_array.specs.Faults.{RefusesCreate, RefusesPut, RefusesRedim};
 ghost use Rattle.std.specs.Ordering.{eq_of_both, on};
 ghost use Rattle.std.specs.Cmp.{and_per, on_per, and_equiv, on_equiv};
 ghost use Rattle.std.specs.Cmp.Lexicographic.{pointwise, lists_per, lists_equiv};
-ghost use Rattle.oa_model.specs.Limits.{max_cells, max_cell_locks};
+ghost use Rattle.oa_model.specs.promise.Limits.{max_cells, max_cell_locks};
 ghost use Rattle.oa_model.specs.contracts.var_type.VarTypePartialEq.TheImpl.Laws.{laws-law as type_per};
 ghost use Rattle.oa_model.specs.contracts.var_type.VarTypeEq.TheImpl.Laws.{laws-law as type_equiv};
 ghost use Rattle.oa_model.specs.contracts.bound.BoundPartialEq.TheImpl.Laws.{laws-law as bound_per};
@@ -24,8 +26,9 @@ use std::alloc::{AllocError, Global};
 use std::fmt;
 use std::marker::Model;
 
-/// Returns the number of elements of an array of this type and these bounds. None if there is no such array: the type has no sfType, there
-/// is no bound or more than 16, or there would be more than 65,536 elements.
+/// Returns the number of elements of an array of this type and these bounds. None if there is no
+/// such array: the type has no sfType, there is no bound or more than 16, or there would be more
+/// than 65,536 elements.
 pub fn cell_count(elem: VarType, bounds: &[Bound]) -> Option<usize>
     ensures { MatchOption result (IsArrayShape elem bounds.now → ⊥)
         (λ n. IsArrayShape elem bounds.now × (n ≡ box_size bounds.now)) }
@@ -37,8 +40,9 @@ pub fn cell_count(elem: VarType, bounds: &[Bound]) -> Option<usize>
     size(*first, others)
 }
 
-/// A safe array (SAFEARRAY, MS-OAUT section 2.2.30): a type, 1 to 16 bounds, an element for each index list within them, and a count of
-/// locks. The last listed index varies fastest. Contracts see it as an `ArrayValue`, with the elements in the order of their positions.
+/// A safe array (SAFEARRAY, MS-OAUT section 2.2.30): a type, 1 to 16 bounds, an element for each
+/// index list within them, and a count of locks. The last listed index varies fastest. Contracts
+/// see it as an `ArrayValue`, with the elements in the order of their positions.
 #[derive(Drop)]
 pub struct SafeArray<T: Cell> {
     head: Box<Head>,
@@ -46,22 +50,22 @@ pub struct SafeArray<T: Cell> {
 }
 
 impl<T: Cell> Model for SafeArray<T> {
-    ghost use Rattle.oa_array.specs.Arrays.{ArrayValue, IsArray};
-    ghost use Rattle.oa_array.specs.Heads.{listed};
+    ghost use Rattle.oa_array.specs.promise.Arrays.{ArrayValue, IsArray};
+    ghost use Rattle.oa_array.specs.Heads.{bounds_in};
 
     ghost Value = { ArrayValue T };
 
-    ghost view = { λ a. record { elem = a.head.value.elem; bounds = listed a.head.value.bounds; cells = a.cells; locks = a.head.value.locks } };
+    ghost view = { λ a. record { elem = a.head.value.elem; bounds = bounds_in a.head.value.bounds; cells = a.cells; locks = a.head.value.locks } };
 
     ghost invariant = { λ a. IsArray T.Fits
-        (record { elem = a.head.value.elem; bounds = listed a.head.value.bounds; cells = a.cells; locks = a.head.value.locks }) };
+        (record { elem = a.head.value.elem; bounds = bounds_in a.head.value.bounds; cells = a.cells; locks = a.head.value.locks }) };
 }
 
 impl<T: Cell> SafeArray<T> {
     /// Makes an array without locks, whose elements are the zero value of their type.
     ///
-    /// Errors: `InvalidArgument` if and only if there is no array of this type and these bounds (see `cell_count`); `Memory` if an
-    /// allocation fails.
+    /// Errors: `InvalidArgument` if and only if there is no array of this type and these bounds
+    /// (see `cell_count`); `Memory` if an allocation fails.
     pub fn create(
         alloc: Global,
         elem: VarType,
@@ -77,8 +81,9 @@ impl<T: Cell> SafeArray<T> {
         Ok(array)
     }
 
-    /// Makes an array without locks of these elements, which are in the order of their positions. There must be arrays of this type and
-    /// these bounds (see `cell_count`), with as many elements, and each element must be of the type. Err: an allocation fails.
+    /// Makes an array without locks of these elements, which are in the order of their positions.
+    /// There must be arrays of this type and these bounds (see `cell_count`), with this number of
+    /// elements. Each element must be of the type. Err: an allocation fails.
     pub fn of_cells(
         alloc: Global,
         elem: VarType,
@@ -131,8 +136,8 @@ impl<T: Cell> SafeArray<T> {
         self.head.locks
     }
 
-    /// Returns the element at an index list, which has one index for each bound, in the same order. `BadIndex` if and only if the index
-    /// list is not within the bounds.
+    /// Returns the element at an index list, which has one index for each bound, in the same order.
+    /// Err: `BadIndex` if and only if the index list is not within the bounds.
     pub fn element(&self, index: &[i32]) -> Result<&T, ArrayFault>
         ensures { MatchResult result
             (λ cell. InBounds self.now.bounds index.now × (array_element self.now index.now ≡ Some cell.now))
@@ -144,8 +149,9 @@ impl<T: Cell> SafeArray<T> {
 
     /// Replaces the element at an index list and returns the old one. All other elements stay.
     ///
-    /// Errors: `BadIndex` if and only if the index list is not within the bounds; otherwise `TypeMismatch` if and only if the value is not
-    /// of the type of the elements. Err contains the value, and nothing has changed.
+    /// Errors: `BadIndex` if and only if the index list is not within the bounds; otherwise
+    /// `TypeMismatch` if and only if the value is not of the type of the elements. Err contains the
+    /// value, and nothing has changed.
     pub fn put_element(&mut self, index: &[i32], value: T) -> Result<T, (T, ArrayFault)>
         ensures { MatchResult result
             (λ was. InBounds self.old.bounds index.now × T.Fits value self.old.elem
@@ -163,8 +169,8 @@ impl<T: Cell> SafeArray<T> {
         Ok(self.cells.replace(place, value))
     }
 
-    /// Returns the number of elements that the array would have with another first bound. None if it is above 65,536; `redim` then refuses
-    /// the bound.
+    /// Returns the number of elements that the array would have with another first bound. None if
+    /// it is above 65,536; `redim` then refuses the bound.
     pub fn redim_count(&self, bound: Bound) -> Option<usize>
         ensures { MatchOption result (max_cells < box_size (with_first bound self.now.bounds))
             (λ n. (n ≡ box_size (with_first bound self.now.bounds)) × (n ≤ max_cells)) }
@@ -172,11 +178,13 @@ impl<T: Cell> SafeArray<T> {
         size(bound, &self.head.bounds.as_slice()[1..])
     }
 
-    /// Replaces the first listed bound. Each element stays at its position. New elements are the zero value of the type.
+    /// Replaces the first listed bound. Each element stays at its position. New elements are the
+    /// zero value of the type.
     ///
-    /// Errors, in this order: `IsLocked` if and only if the array is locked; `InvalidArgument` if and only if it would have more than
-    /// 65,536 elements; `Memory` if an allocation fails. After an error nothing has changed. The elements use the allocator with which they
-    /// were made; `_alloc` only shows that the call may allocate.
+    /// Errors, in this order: `IsLocked` if and only if the array is locked; `InvalidArgument` if
+    /// and only if it would have more than 65,536 elements; `Memory` if an allocation fails. After
+    /// an error nothing has changed. The elements use the allocator with which they were made;
+    /// `_alloc` only shows that the call may allocate.
     pub fn redim(&mut self, _alloc: Global, bound: Bound) -> Result<(), ArrayFault>
         ensures { MatchResult result
             (λ _. (self.old.locks ≡ 0) × (box_size (with_first bound self.old.bounds) ≤ max_cells)
@@ -192,7 +200,8 @@ impl<T: Cell> SafeArray<T> {
         Ok(())
     }
 
-    /// Adds a lock and returns the new count. `Unexpected` if and only if the array has 65,535 locks.
+    /// Adds a lock and returns the new number of locks. Err: `Unexpected` if and only if the array
+    /// has 65,535 locks.
     pub fn lock(&mut self) -> Result<u16, ArrayFault>
         ensures { MatchResult result
             (λ count. (self.old.locks < max_cell_locks) × (count ≡ self.old.locks + 1) × (self.new ≡ with_locks self.old count))
@@ -205,7 +214,8 @@ impl<T: Cell> SafeArray<T> {
         Ok(self.head.locks)
     }
 
-    /// Removes a lock and returns the new count. `Unexpected` if and only if the array has no lock.
+    /// Removes a lock and returns the new number of locks. Err: `Unexpected` if and only if the
+    /// array has no lock.
     pub fn unlock(&mut self) -> Result<u16, ArrayFault>
         ensures { MatchResult result
             (λ count. (count + 1 ≡ self.old.locks) × (self.new ≡ with_locks self.old count))
@@ -267,14 +277,15 @@ impl<T: Cell + fmt::Debug> fmt::Debug for SafeArray<T> {
     }
 }
 
-/// Makes `count` elements with the zero value of a type.
+/// Makes `count` elements with the zero value of a type. Err: `Memory`.
 fn zeros<T: Cell>(alloc: Global, elem: VarType, count: usize) -> Result<Cells<T>, ArrayFault>
     ensures { MatchResult result (λ cells. cells ≡ replicate count (T.zero_of elem)) (λ fault. fault ≡ ArrayFault.Memory) }
 {
     Cells::filled_by(alloc, count, move |_| Ok::<T, ArrayFault>(T::zero(elem)))
 }
 
-/// Changes the number of elements. Each stays at its position, and new ones are the zero value of the type.
+/// Changes the number of elements to `count`. Each stays at its position, and new ones are the zero
+/// value of the type. Err: `Memory`, and nothing has changed.
 fn resize<T: Cell>(cells: &mut Cells<T>, elem: VarType, count: usize) -> Result<(), ArrayFault>
     ensures { MatchResult result
         (λ _. cells.new ≡ kept_by_position (T.zero_of elem) count cells.old)
@@ -283,7 +294,7 @@ fn resize<T: Cell>(cells: &mut Cells<T>, elem: VarType, count: usize) -> Result<
     cells.resized(count, move |_| Ok::<T, ArrayFault>(T::zero(elem)))
 }
 
-/// Copies the elements.
+/// Returns a copy of the elements. Err: an allocation fails.
 fn copies<T: Cell>(alloc: Global, from: &Cells<T>) -> Result<Cells<T>, AllocError>
     ensures { IfOk result (λ cells. cells ≡ from.now) }
 {

@@ -1,14 +1,14 @@
 //! The elements of arrays.
 ghost use Rattle.std.specs.Prelude.{◌≡◌, ◌↔◌, IsTrue, IsSome, IfOk};
 ghost use Rattle.oa_model.specs.declared.var_type.VarType.{VarType};
-ghost use Rattle.oa_model.specs.Types.{sf_type_of};
+ghost use Rattle.oa_model.specs.promise.Types.{sf_type_of};
 
 use oa_model::VarType;
 use std::alloc::{AllocError, Global};
 
-/// A value that can be an element of an array. In contracts, `Fits value elem` means that the value can be an element of an array of the
-/// type `elem`, and `zero_of elem` is the zero value of that type. The theorem `zero_fits` says that this zero value fits, if there are
-/// such arrays.
+/// A value that can be an element of an array. In contracts, `Fits value elem` means that the value
+/// can be an element of an array of the type `elem`. `zero_of elem` is the zero value of that type.
+/// The theorem `zero_fits` says that this zero value fits, if there are such arrays.
 pub trait Cell: Drop {
     ghost Fits: { Self → VarType → Type 0 };
 

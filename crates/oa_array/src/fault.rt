@@ -1,7 +1,7 @@
 //! Why an operation on an array is refused.
 ghost use Rattle.std.specs.Prelude.{◌≡◌};
 ghost use Rattle.oa_array.specs.declared.fault.ArrayFault.TheVariants.{Memory};
-ghost use Rattle.oa_array.specs.Faults.{array_code};
+ghost use Rattle.oa_array.specs.promise.Faults.{array_code};
 
 use oa_model::HResult;
 use std::alloc::AllocError;
@@ -10,7 +10,8 @@ use thiserror::Error;
 /// Why an operation on an array is refused.
 #[derive(Clone, Copy, Debug, PartialEq, Eq, Error)]
 pub enum ArrayFault {
-    /// The index list is not within the bounds: it has too many or too few indices, or one is outside its bound.
+    /// The index list is not within the bounds: it has too many or too few indices, or one is
+    /// outside its bound.
     #[error("the index list does not lie in the bounds of the array")]
     BadIndex,
     /// The value is not of the type of the elements.
@@ -19,7 +20,7 @@ pub enum ArrayFault {
     /// The array is locked.
     #[error("the array is locked")]
     IsLocked,
-    /// There is no array of this type, with these bounds, or with so many elements.
+    /// There is no array of this type, with these bounds, or with that number of elements.
     #[error("there is no array of this type and these bounds")]
     InvalidArgument,
     /// The array has the largest possible number of locks, or none to remove.

@@ -1,6 +1,6 @@
 //! The parts of an array other than its elements.
 ghost use Rattle.std.specs.Prelude.{◌≡◌, ◌<◌, length, slice_set, IfOk};
-ghost use Rattle.oa_array.specs.Heads.{listed};
+ghost use Rattle.oa_array.specs.Heads.{bounds_in};
 
 use oa_model::{Bound, VarType};
 use std::alloc::{AllocError, Global};
@@ -15,9 +15,10 @@ pub(crate) enum BoundList {
 }
 
 impl BoundList {
-    /// Makes a list of these bounds. Err: an allocation fails, which happens only if there is not exactly one bound.
+    /// Makes a list of these bounds. Err: an allocation fails, which happens only if there is not
+    /// exactly one bound.
     pub(crate) fn of_slice(alloc: Global, bounds: &[Bound]) -> Result<BoundList, AllocError>
-        ensures { IfOk result (λ list. listed list ≡ bounds.now) }
+        ensures { IfOk result (λ list. bounds_in list ≡ bounds.now) }
     {
         if let [bound] = bounds {
             return Ok(BoundList::One(*bound));
@@ -29,7 +30,7 @@ impl BoundList {
 
     /// Returns the bounds in their order.
     pub(crate) fn as_slice(&self) -> &[Bound]
-        ensures { result.now ≡ listed self.now }
+        ensures { result.now ≡ bounds_in self.now }
     {
         match self {
             BoundList::One(bound) => std::slice::from_ref(bound),
@@ -39,8 +40,8 @@ impl BoundList {
 
     /// Replaces the first bound.
     pub(crate) fn set_first(&mut self, bound: Bound)
-        requires { 0 < length (listed self.old) }
-        ensures { listed self.new ≡ slice_set (listed self.old) 0 bound }
+        requires { 0 < length (bounds_in self.old) }
+        ensures { bounds_in self.new ≡ slice_set (bounds_in self.old) 0 bound }
     {
         match self {
             BoundList::One(only) => *only = bound,
@@ -52,7 +53,10 @@ impl BoundList {
 /// The type of the elements, the number of locks and the bounds.
 #[derive(Drop)]
 pub(crate) struct Head {
+    /// The type of the elements.
     pub(crate) elem: VarType,
+    /// The number of locks.
     pub(crate) locks: u16,
+    /// The bounds, in the listed order.
     pub(crate) bounds: BoundList,
 }

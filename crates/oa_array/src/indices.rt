@@ -4,7 +4,8 @@ ghost use Rattle.oa_model.specs.Limits.{max_index_list};
 
 use std::marker::Model;
 
-/// The index list of a request or of a log record: at most 65,535 indices. Contracts see it as a list of integers.
+/// The index list of a request or of a log record: at most 65,535 indices. Contracts see it as a
+/// list of integers.
 #[derive(Debug, Drop)]
 pub struct Indices {
     values: Vec<i32>,

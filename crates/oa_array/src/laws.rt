@@ -1,11 +1,12 @@
 //! Theorems about the definitions, each the contract of a function with an empty body.
 ghost use Rattle.std.specs.Prelude.{◌≡◌, ℕ, ◌+◌, ◌*◌, ◌<◌, ◌≤◌, ◌↔◌, ℤ, pos, ◌+ℤ◌, List, [], ◌∷◌, length, slice_get, Some};
 ghost use Rattle.oa_model.specs.declared.bound.Bound.{Bound};
-ghost use Rattle.oa_array.specs.Boxes.{InBounds, index_lists, box_size, position_of};
-ghost use Rattle.oa_array.specs.Arrays.{ArrayValue, array_element, with_cell, with_first, redimensioned};
+ghost use Rattle.oa_array.specs.Boxes.{InBounds};
+ghost use Rattle.oa_array.specs.promise.Boxes.{index_lists, box_size, position_of};
+ghost use Rattle.oa_array.specs.promise.Arrays.{ArrayValue, array_element, with_cell, with_first, redimensioned};
 
-/// The list of all index lists within the bounds contains at each place the one that has this place as its position. It contains each of
-/// them once, in increasing order.
+/// The list of all index lists within the bounds contains at each place the one that has this place
+/// as its position. It contains each of them once, in increasing order.
 pub fn members_stand_at_their_positions()
     ensures { (bounds : List Bound) (index : List ℤ) (place : ℕ) →
         (slice_get (index_lists bounds) place ≡ Some index) ↔ (InBounds bounds index × (position_of bounds index ≡ place)) }
@@ -24,7 +25,8 @@ pub fn position_is_a_sum_of_products()
         position_of (bound ∷ others) ((bound.lower +ℤ pos above) ∷ rest) ≡ above * box_size others + position_of others rest }
 {}
 
-/// After a put the element at that index list is the new one, and every other index list within the bounds has the same element as before.
+/// After a put the element at that index list is the new one. Every other index list within the
+/// bounds has the same element as before.
 pub fn put_changes_one_cell<T>()
     ensures { (a : ArrayValue T) (index other : List ℤ) (cell : T) → length a.cells ≡ box_size a.bounds →
         InBounds a.bounds index → InBounds a.bounds other →
@@ -32,7 +34,8 @@ pub fn put_changes_one_cell<T>()
         × ((other ≡ index → ⊥) → array_element (with_cell a index cell) other ≡ array_element a other) }
 {}
 
-/// After a redimension, an index list within the new bounds has the old element at the same position, or the zero value if there was none.
+/// After a redimension, an index list within the new bounds has the old element at the same
+/// position. If there was none, it has the zero value.
 pub fn redimension_keeps_cells_by_position<T>()
     ensures kept { (a : ArrayValue T) (zero : T) (bound : Bound) (index old : List ℤ) → length a.cells ≡ box_size a.bounds →
         InBounds (with_first bound a.bounds) index → InBounds a.bounds old →

@@ -9,20 +9,22 @@ use Rattle.std.proofs.lemmas.Option.{none-some}
 use Rattle.std.proofs.lemmas.List.{get_or_past}
 use Rattle.std.proofs.lemmas.Bool.{false_from_ne_true, lt-ltb, ltb-false}
 use Rattle.std.proofs.lemmas.Bool.Decides.{Decides-int_eq, nat_tests}
-use Rattle.oa_model.specs.Codes.{e_invalidarg, disp_e_badparamcount, disp_e_paramnotfound}
+use Rattle.oa_model.specs.promise.Codes.{e_invalidarg, disp_e_badparamcount, disp_e_paramnotfound}
 use Rattle.oa_model.specs.declared.hresult.HResult.{HResult}
 use Rattle.oa_idl.specs.declared.parts.Parameter.{Parameter}
 use Rattle.oa_typelib.specs.declared.access.Kind.{Kind}
 use Rattle.oa_bind.specs.declared.fault.BindFault.{BindFault}
-use Rattle.oa_bind.specs.Given.{Given, IsGiven, by_position, dispid_of_argument, argument_index, is_parameter}
-use Rattle.oa_bind.specs.Names.{is_consistent, most, names_none, names_well, repeats, well_named}
-use Rattle.oa_bind.specs.Refusals.{◌>>=◌, unless, unless_at}
+use Rattle.oa_bind.specs.promise.Given.{Given, by_position, argument_index, is_parameter}
+use Rattle.oa_bind.specs.Given.{IsGiven, dispid_of_argument}
+use Rattle.oa_bind.specs.promise.Names.{is_consistent, most, names_none, names_well, repeats, well_named}
+use Rattle.oa_bind.specs.promise.Refusals.{◌>>=◌, bind_fault_if, unless_at}
 
 -- The rest after a check that has not refused.
 no_answer : {A : Type 0} (e : BindFault) (x : A) → Err e ≡ Ok x → ⊥
 no_answer e x h = absurd cc
 
-passed : {A : Type 0} (code : HResult) (bad : Bool) (next : Unit {0} → Result A BindFault) (x : A) → unless code bad >>= next ≡ Ok x → (bad ≡ false) × (next tt ≡ Ok x)
+passed : {A : Type 0} (code : HResult) (bad : Bool) (next : Unit {0} → Result A BindFault) (x : A) → bind_fault_if code bad >>= next ≡ Ok x → (bad ≡ false)
+    × (next tt ≡ Ok x)
 passed code true next x h = absurd (no_answer _ x h)
 passed code false next x h = (refl, h)
 
@@ -37,7 +39,8 @@ both_false false b h = (refl, h)
 consistent_is : (kind : Kind) (named : List ℤ) (count : ℕ) → not (is_consistent kind named count) ≡ false → (length named ≤ count) × (repeats named ≡ false)
 consistent_is kind named count h = by (nat_lt count (length named)) (repeats named) refl refl h
   where
-    by : (a b : Bool) → nat_lt count (length named) ≡ a → repeats named ≡ b → not (if a || b then false else names_well kind named) ≡ false → (length named ≤ count) × (repeats named ≡ false)
+    by : (a b : Bool) → nat_lt count (length named) ≡ a → repeats named ≡ b → not (if a || b then false else names_well kind named) ≡ false
+        → (length named ≤ count) × (repeats named ≡ false)
     by true b p q e = absurd (true≢false e)
     by false true p q e = absurd (true≢false e)
     by false false p q e = (ltb-false count (length named) p, q)
@@ -51,7 +54,8 @@ none_passes test [] k blank none within = absurd (omega (arith, within))
 none_passes test (x ∷ xs) zero blank none within = (both_false (test x) (list_any test xs) none).0
 none_passes test (x ∷ xs) (suc k) blank none within = none_passes test xs k blank (both_false (test x) (list_any test xs) none).1 (omega (arith, within))
 
-found_there : (first : ℕ) (named : List ℤ) (j : ℕ) (blank : ℤ) → repeats named ≡ false → j < length named → position_from (λ n. int_eq n (get_or named j blank)) first named ≡ Some (first + j)
+found_there : (first : ℕ) (named : List ℤ) (j : ℕ) (blank : ℤ) → repeats named ≡ false → j < length named
+    → position_from (λ n. int_eq n (get_or named j blank)) first named ≡ Some (first + j)
 found_there first [] j blank once within = absurd (omega (arith, within))
 found_there first (x ∷ xs) zero blank once within = rw ((Decides-int_eq x x).1 refl) (ap Some (omega arith))
 found_there first (x ∷ xs) (suc j) blank once within =
@@ -61,7 +65,8 @@ found_there first (x ∷ xs) (suc j) blank once within =
     rw apart (found_there (first + 1) xs j blank h.1 less ∙ ap Some (omega arith))
 
 -- If no name is that of a parameter that is given by position, no name finds an argument by position.
-never_found : {X : Type 0} (test : X → Bool) (first : ℕ) (xs : List X) (k : ℕ) (blank : X) → position_from test first xs ≡ None → k < length xs → test (get_or xs k blank) ≡ false
+never_found : {X : Type 0} (test : X → Bool) (first : ℕ) (xs : List X) (k : ℕ) (blank : X) → position_from test first xs ≡ None → k < length xs
+    → test (get_or xs k blank) ≡ false
 never_found test first [] k blank none within = absurd (omega (arith, within))
 never_found {X} test first (x ∷ xs) k blank none within = by (test x) refl none k within (λ h j less. never_found test (first + 1) xs j blank h less)
   where
@@ -75,11 +80,13 @@ not_by_place : (positions parameters : ℕ) (id : ℤ) → names_none positions 
 not_by_place positions parameters (negsuc n) h = refl
 not_by_place positions parameters (pos n) h = (both_false (not (nat_lt n parameters)) (nat_lt n positions) h).1
 
-by_name : (named : List ℤ) (count j : ℕ) (parameters : ℕ) (blank : ℤ) → repeats named ≡ false → position_from (names_none (by_position named count) parameters) 0 named ≡ None → j < length named
+by_name : (named : List ℤ) (count j : ℕ) (parameters : ℕ) (blank : ℤ) → repeats named ≡ false
+    → position_from (names_none (by_position named count) parameters) 0 named ≡ None → j < length named
     → argument_index named count (get_or named j blank) ≡ Some j
 unfolding argument_index
 by_name named count j parameters blank once known within =
-    let off = not_by_place (by_position named count) parameters (get_or named j blank) (never_found (names_none (by_position named count) parameters) 0 named j blank known within) in
+    let off = not_by_place (by_position named count) parameters (get_or named j blank)
+    (never_found (names_none (by_position named count) parameters) 0 named j blank known within) in
     let there : position_from (λ n. int_eq n (get_or named j blank)) 0 named ≡ Some j = found_there 0 named j blank once within ∙ ap Some (omega arith) in
     rw (off, there) refl
 
@@ -90,7 +97,8 @@ by_turn named count j past within =
     let back : count - 1 - (count - 1 - j) ≡ j = omega (arith, within) in
     rw (on, back) refl
 
-counts : (parameters : List Parameter) (kind : Kind) (call : Given) (j : ℕ) → well_named parameters kind call.named (length call.arguments) ≡ Ok tt → j < length call.arguments
+counts : (parameters : List Parameter) (kind : Kind) (call : Given) (j : ℕ) → well_named parameters kind call.named (length call.arguments) ≡ Ok tt
+    → j < length call.arguments
     → argument_index call.named (length call.arguments) (dispid_of_argument call.named (length call.arguments) j) ≡ Some j
 unfolding well_named
 counts parameters kind call j h within =
@@ -101,14 +109,16 @@ counts parameters kind call j h within =
     let fine = consistent_is kind call.named count one.0 in
     by (nat_lt j (length call.named)) refl fine.1 known
   where
-    by : (b : Bool) → nat_lt j (length call.named) ≡ b → repeats call.named ≡ false → position_from (names_none (by_position call.named (length call.arguments)) (length parameters)) 0 call.named ≡ None
+    by : (b : Bool) → nat_lt j (length call.named) ≡ b → repeats call.named ≡ false
+        → position_from (names_none (by_position call.named (length call.arguments)) (length parameters)) 0 call.named ≡ None
         → argument_index call.named (length call.arguments) (dispid_of_argument call.named (length call.arguments) j) ≡ Some j
     by true is once known = by_name call.named (length call.arguments) j (length parameters) _ once known (grind (arith, nat_tests, is))
     by false is once known =
         let past : length call.named ≤ j = ltb-false j (length call.named) is in
         rw (get_or_past call.named j (pos (length call.arguments - 1 - j)) past) (by_turn call.named (length call.arguments) j past within)
 
-pub argument_counts : (parameters : List Parameter) (kind : Kind) (call : Given) (i : ℕ) (id : ℤ) → well_named parameters kind call.named (length call.arguments) ≡ Ok tt → IsGiven call i id
+pub argument_counts : (parameters : List Parameter) (kind : Kind) (call : Given) (i : ℕ) (id : ℤ)
+    → well_named parameters kind call.named (length call.arguments) ≡ Ok tt → IsGiven call i id
     → argument_index call.named (length call.arguments) id ≡ Some i
 argument_counts parameters kind call i id fine is =
     subst (λ d. argument_index call.named (length call.arguments) d ≡ Some i) is.named (counts parameters kind call i fine is.there)

@@ -7,7 +7,8 @@ use Rattle.std.proofs.lemmas.Option.{none-some, same_Some}
 use Rattle.std.proofs.lemmas.List.{get_or_past}
 use Rattle.std.proofs.lemmas.Bool.Decides.{Decides-int_eq, nat_tests}
 use Rattle.oa_variant.specs.declared.variant.Variant.{Variant}
-use Rattle.oa_bind.specs.Given.{Given, IsGiven, argument_at, argument_for, by_position, dispid_of_argument, argument_index, is_parameter}
+use Rattle.oa_bind.specs.promise.Given.{Given, argument_at, argument_for, by_position, argument_index, is_parameter}
+use Rattle.oa_bind.specs.Given.{IsGiven, dispid_of_argument}
 
 -- A DISPID that is found among names is at the place that is found.
 stands_there : (named : List ℤ) (first i : ℕ) (id blank : ℤ) → position_from (λ n. int_eq n id) first named ≡ Some i
@@ -28,7 +29,8 @@ stands_there (x ∷ xs) first i id blank found = by (int_eq x id) refl found (st
         (omega (arith, rest.0), omega (arith, rest.1), rw next rest.2)
 
 by_place_or_name : (named : List ℤ) (count i : ℕ) (id : ℤ) (b : Bool) → is_parameter (by_position named count) id ≡ b → length named ≤ count
-    → (if b then Some (count - 1 - unsigned_abs id) else position_from (λ n. int_eq n id) 0 named) ≡ Some i → (i < count) × (dispid_of_argument named count i ≡ id)
+    → (if b then Some (count - 1 - unsigned_abs id) else position_from (λ n. int_eq n id) 0 named) ≡ Some i → (i < count)
+    × (dispid_of_argument named count i ≡ id)
 by_place_or_name named count i id false is few found =
     let here = stands_there named 0 i id (pos (count - 1 - i)) found in
     let zero : i - 0 ≡ i = omega arith in
@@ -41,19 +43,22 @@ by_place_or_name named count i (pos p) true is few found =
     let back : count - 1 - i ≡ p = omega (arith, same, below) in
     (omega (arith, same, below), get_or_past named i (pos (count - 1 - i)) past ∙ ap pos back)
 
-pub index_is : (named : List ℤ) (count i : ℕ) (id : ℤ) → length named ≤ count → argument_index named count id ≡ Some i → (i < count) × (dispid_of_argument named count i ≡ id)
+pub index_is : (named : List ℤ) (count i : ℕ) (id : ℤ) → length named ≤ count → argument_index named count id ≡ Some i → (i < count)
+    × (dispid_of_argument named count i ≡ id)
 unfolding argument_index
 index_is named count i id few found = by_place_or_name named count i id (is_parameter (by_position named count) id) refl few found
 
 -- the laws
-pub is_given : (call : Given) (i : ℕ) (id : ℤ) → length call.named ≤ length call.arguments → argument_index call.named (length call.arguments) id ≡ Some i → IsGiven call i id
+pub is_given : (call : Given) (i : ℕ) (id : ℤ) → length call.named ≤ length call.arguments → argument_index call.named (length call.arguments) id ≡ Some i
+    → IsGiven call i id
 is_given call i id few found = let h = index_is call.named (length call.arguments) i id few found in record { there = h.0; named = h.1 }
 
 pub alone : (call : Given) (i : ℕ) (id other : ℤ) → IsGiven call i id → IsGiven call i other → id ≡ other
 alone call i id other one another = sym one.named ∙ another.named
 
 -- one index is found by one DISPID
-pub index_once : (named : List ℤ) (count i : ℕ) (id other : ℤ) → length named ≤ count → argument_index named count id ≡ Some i → argument_index named count other ≡ Some i → id ≡ other
+pub index_once : (named : List ℤ) (count i : ℕ) (id other : ℤ) → length named ≤ count → argument_index named count id ≡ Some i
+    → argument_index named count other ≡ Some i → id ≡ other
 index_once named count i id other few one another = sym (index_is named count i id few one).1 ∙ (index_is named count i other few another).1
 
 -- The argument for a parameter is the same, if the one at its index is.

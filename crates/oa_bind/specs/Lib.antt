@@ -1,5 +1,3 @@
-pub mod Bindings
-pub mod Calls
 pub mod Given
-pub mod Names
 pub mod Refusals
+pub mod promise

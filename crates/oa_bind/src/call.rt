@@ -12,7 +12,7 @@ pub struct BoundCall {
 }
 
 impl Model for BoundCall {
-    ghost use Rattle.oa_bind.specs.Calls.{BoundCallValue};
+    ghost use Rattle.oa_bind.specs.promise.Calls.{BoundCallValue};
 
     ghost Value = { BoundCallValue };
 

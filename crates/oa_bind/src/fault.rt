@@ -2,7 +2,8 @@
 use oa_model::HResult;
 use std::alloc::{AllocError, AllocFailed};
 
-/// Why a call is refused: the code of the reply, and the index in rgvarg of the argument that it is about.
+/// Why a call is refused: the code of the reply, and the index in rgvarg of the argument that it is
+/// about.
 #[derive(Clone, Copy, Debug, PartialEq, Eq)]
 pub struct BindFault {
     /// The code (MS-ERREF section 2.1); E_OUTOFMEMORY if an allocation fails.

@@ -2,7 +2,7 @@
 ghost use Rattle.std.specs.Prelude.{◌≡◌, ◌≢◌, ◌<◌, ◌≤◌, ℕ, length, slice_get, Some, IfSome};
 ghost use Rattle.std.specs.List.{position_from};
 ghost use Rattle.std.specs.Ordering.{int_eq};
-ghost use Rattle.oa_bind.specs.Given.{argument_index, is_parameter, says_missing};
+ghost use Rattle.oa_bind.specs.promise.Given.{argument_index, is_parameter, says_missing};
 
 use oa_model::HResult;
 use oa_variant::{Scalar, Variant};
@@ -17,8 +17,9 @@ pub(crate) fn is_parameter(n: usize, id: i32) -> bool
     id >= 0 && (id.unsigned_abs() as usize) < n
 }
 
-/// Returns the index of the argument for a DISPID, among `count` arguments.
-#[tactic(auto, unfolding(crate::specs::Given::argument_index))]
+/// Returns the index in rgvarg of the argument for a DISPID, among `count` arguments; None if there
+/// is none.
+#[tactic(auto, unfolding(crate::specs::promise::Given::argument_index))]
 pub(crate) fn index_of(named: &[i32], count: usize, id: i32) -> Option<usize>
     requires { length named.now ≤ count }
     ensures value { result ≡ argument_index named.now count id }
@@ -30,7 +31,7 @@ pub(crate) fn index_of(named: &[i32], count: usize, id: i32) -> Option<usize>
     first_named(named, id)
 }
 
-/// Returns the first index of a DISPID in `named`.
+/// Returns the first index of a DISPID in `named`; None if it is not there.
 fn first_named(named: &[i32], id: i32) -> Option<usize>
     ensures value { result ≡ position_from (λ n. int_eq n id) 0 named.now }
     ensures within { IfSome result (λ i. i < length named.now) }
@@ -53,7 +54,8 @@ pub(crate) fn says_missing(argument: &Variant) -> bool
     }
 }
 
-/// Moves the argument at an index out and leaves EMPTY in its place, so that no other argument is moved or copied.
+/// Moves the argument at index `i` out and returns it. EMPTY is left in its place, so that no other
+/// argument is moved or copied.
 pub(crate) fn take(arguments: &mut Vec<Variant>, i: usize) -> Variant
     requires { i < length arguments.old.items }
     ensures taken { slice_get arguments.old.items i ≡ Some result }

@@ -1,16 +1,17 @@
 //! The checks before any argument is coerced. They allocate nothing.
 ghost use Rattle.std.specs.Prelude.{◌≡◌, ◌≢◌, ◌≤◌, ◌<◌, ◌+◌, length, true, IfErr, IfSome, OnOk};
 ghost use Rattle.std.specs.List.{position_from};
-ghost use Rattle.oa_model.specs.Limits.{max_arguments, max_parameters};
+ghost use Rattle.oa_model.specs.promise.Limits.{max_arguments, max_parameters};
 ghost use Rattle.oa_bind.specs.Given.{given_call};
-ghost use Rattle.oa_bind.specs.Names.{complete, is_consistent, lacks, most, names_none, repeats, well_named};
-ghost use Rattle.oa_bind.specs.Refusals.{any_at, lacks_memory};
+ghost use Rattle.oa_bind.specs.promise.Names.{complete, is_consistent, lacks, most, names_none, repeats, well_named};
+ghost use Rattle.oa_bind.specs.promise.Refusals.{any_at};
+ghost use Rattle.oa_bind.specs.Refusals.{lacks_memory};
 
 use crate::BindFault;
 use crate::given::{index_of, is_parameter, says_missing};
-use oa_checks::is_optional;
 use oa_idl::Parameter;
 use oa_model::{HResult, PROPERTY_PUT_DISPID};
+use oa_sema::is_optional;
 use oa_typelib::Kind;
 use oa_variant::Variant;
 
@@ -27,7 +28,8 @@ fn has_repeat(named: &[i32]) -> bool
     false
 }
 
-/// Returns whether there are no more names than arguments, none occurs twice, and a put names its new value and a get none.
+/// Returns whether there are no more names than arguments, none occurs twice, and a put names its
+/// new value and a get none.
 fn is_consistent(kind: Kind, named: &[i32], count: usize) -> bool
     requires { length named.now ≤ max_arguments }
     ensures test { result ≡ is_consistent kind named.now count }
@@ -43,7 +45,7 @@ fn is_consistent(kind: Kind, named: &[i32], count: usize) -> bool
     }
 }
 
-/// Returns the largest number of arguments.
+/// Returns the largest number of arguments: one for each parameter, and the new value of a put.
 fn most(kind: Kind, parameters: &[Parameter]) -> usize
     requires { length parameters.now ≤ max_parameters }
     ensures { result ≡ most kind parameters.now }
@@ -54,14 +56,15 @@ fn most(kind: Kind, parameters: &[Parameter]) -> usize
     }
 }
 
-/// Returns whether a DISPID other than that of the new value is that of no parameter, or of one that is also given by position.
+/// Returns whether a DISPID other than that of the new value is that of no parameter, or of one
+/// that is also given by position.
 fn names_none(positions: usize, parameters: usize, id: i32) -> bool
     ensures { result ≡ names_none positions parameters id }
 {
     id != PROPERTY_PUT_DISPID && (!is_parameter(parameters, id) || is_parameter(positions, id))
 }
 
-/// Returns the lowest index of such a DISPID.
+/// Returns the lowest index of such a DISPID; None if there is none.
 fn first_unknown(named: &[i32], positions: usize, parameters: usize) -> Option<usize>
     ensures value { result ≡ position_from (names_none positions parameters) 0 named.now }
     ensures within { IfSome result (λ i. i < length named.now) }
@@ -90,7 +93,7 @@ fn lacks(named: &[i32], arguments: &[Variant], place: usize, parameter: &Paramet
 }
 
 /// Returns whether some parameter is required and missing.
-#[tactic(auto, unfolding(crate::specs::Refusals::any_at))]
+#[tactic(auto, unfolding(crate::specs::promise::Refusals::any_at))]
 fn any_lacks(parameters: &[Parameter], named: &[i32], arguments: &[Variant]) -> bool
     requires few { length parameters.now ≤ max_parameters }
     requires named { length named.now ≤ length arguments.now }
@@ -104,8 +107,10 @@ fn any_lacks(parameters: &[Parameter], named: &[i32], arguments: &[Variant]) -> 
     false
 }
 
-/// Checks the names and the number of the arguments, in the order of the errors.
-#[tactic(auto, unfolding(crate::specs::Names::well_named))]
+/// Checks the names and the number of the arguments, of which there are `count`. Errors, in this
+/// order: E_INVALIDARG, DISP_E_BADPARAMCOUNT, and DISP_E_PARAMNOTFOUND with the lowest index of an
+/// unknown name.
+#[tactic(auto, unfolding(crate::specs::promise::Names::well_named))]
 pub(crate) fn check_names(
     parameters: &[Parameter],
     kind: Kind,
@@ -131,8 +136,8 @@ pub(crate) fn check_names(
     Ok(())
 }
 
-/// Checks that each required parameter has an argument.
-#[tactic(auto, unfolding(crate::specs::Names::complete))]
+/// Checks that each required parameter has an argument. Err: DISP_E_PARAMNOTOPTIONAL.
+#[tactic(auto, unfolding(crate::specs::promise::Names::complete))]
 pub(crate) fn check_complete(
     parameters: &[Parameter],
     named: &[i32],

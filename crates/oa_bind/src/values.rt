@@ -1,14 +1,17 @@
 //! Makes the values of the parameters, and the new value of a put.
 ghost use Rattle.std.specs.Prelude.{◌≡◌, ◌≢◌, ◌≤◌, ◌<◌, ◌+◌, ℕ, true, false, length, map, pos, slice_get, Some, IfErr, IfOk, OnErr, OnOk};
-ghost use Rattle.oa_model.specs.Limits.{max_arguments, max_parameters};
-ghost use Rattle.oa_coerce.specs.Answers.{coerced, is_memory};
-ghost use Rattle.oa_coerce.specs.Refusals.{IsArrayType, coercion_code};
-ghost use Rattle.oa_checks.specs.Defaults.{default_value};
+ghost use Rattle.oa_model.specs.promise.Limits.{max_arguments, max_parameters};
+ghost use Rattle.oa_coerce.specs.promise.Answers.{coerced};
+ghost use Rattle.oa_coerce.specs.Answers.{is_memory};
+ghost use Rattle.oa_coerce.specs.promise.Refusals.{IsArrayType, coercion_code};
+ghost use Rattle.oa_sema.specs.promise.Defaults.{default_value};
 ghost use Rattle.oa_variant.specs.Variants.{HasZero};
-ghost use Rattle.oa_bind.specs.Bindings.{PutsArray, missing_value, given_new_value, parameter_value};
-ghost use Rattle.oa_bind.specs.Bindings.{scalar_type, told_of_argument, value_by_argument, without_default};
-ghost use Rattle.oa_bind.specs.Given.{Stay, given_call, argument_index};
-ghost use Rattle.oa_bind.specs.Refusals.{BindsAs, each_at, lacks_memory};
+ghost use Rattle.oa_bind.specs.promise.Bindings.{PutsArray, missing_value, given_new_value, parameter_value};
+ghost use Rattle.oa_bind.specs.promise.Bindings.{scalar_type, told_of_argument, value_by_argument, without_default};
+ghost use Rattle.oa_bind.specs.Given.{Stay, given_call};
+ghost use Rattle.oa_bind.specs.promise.Given.{argument_index};
+ghost use Rattle.oa_bind.specs.Refusals.{BindsAs, lacks_memory};
+ghost use Rattle.oa_bind.specs.promise.Refusals.{each_at};
 
 use crate::BindFault;
 use crate::given::{MISSING, index_of, says_missing, take};
@@ -40,7 +43,8 @@ fn without_default(to: VarType) -> Scalar
     }
 }
 
-/// Returns the value of a missing argument, given the value of the parameter's default.
+/// Returns the value of a missing argument, given the value of the parameter's default. Err: an
+/// allocation fails.
 fn missing_value(
     alloc: Global,
     parameter: &Parameter,
@@ -55,7 +59,8 @@ fn missing_value(
     }
 }
 
-/// Coerces the argument at an index to a type. Allocates nothing.
+/// Coerces the argument at index `i` to a type. Allocates nothing. Err: DISP_E_TYPEMISMATCH or
+/// DISP_E_OVERFLOW, with the index.
 fn value_by(to: VarType, i: usize, argument: Variant) -> Result<Scalar, BindFault>
     requires { i < max_arguments }
     ensures { result ≡ value_by_argument to i argument }
@@ -69,7 +74,8 @@ fn value_by(to: VarType, i: usize, argument: Variant) -> Result<Scalar, BindFaul
     }
 }
 
-/// Returns the value of the parameter at a place. Moves its argument out; the others stay.
+/// Returns the value of the parameter at a place. Moves its argument out; the others stay. Err: the
+/// argument cannot be coerced; E_OUTOFMEMORY without an index.
 fn value(
     alloc: Global,
     parameter: &Parameter,
@@ -97,8 +103,9 @@ fn value(
     value_by(scalar_type(parameter.value_type), i, argument)
 }
 
-/// Returns the values of the parameters in their order, given the values of their defaults. Moves their arguments out; the others stay.
-/// Allocates nothing if there are no parameters.
+/// Returns the values of the parameters in their order, given the values of their defaults. Moves
+/// their arguments out; the others stay. Allocates nothing if there are no parameters. Err: the
+/// first argument that cannot be coerced, with its index; E_OUTOFMEMORY without an index.
 pub(crate) fn key(
     alloc: Global,
     parameters: &[Parameter],
@@ -141,7 +148,8 @@ fn fault_at(fault: CoerceFault, at: u32) -> BindFault
     }
 }
 
-/// Coerces the argument at an index to the declared type of a new value.
+/// Coerces the argument at index `i` to the declared type of a new value. Err: it cannot be
+/// coerced; E_OUTOFMEMORY without an index.
 fn new_value_by(
     alloc: Global,
     argument: Variant,
@@ -157,7 +165,9 @@ fn new_value_by(
     coerce(alloc, argument, declared).map_err(|(_, fault)| fault_at(fault, at))
 }
 
-/// Returns the new value of a put, or None for a get. Moves its argument out.
+/// Returns the new value of a put, or None for a get. Moves its argument out. Err:
+/// DISP_E_TYPEMISMATCH or DISP_E_OVERFLOW with the argument's index; E_OUTOFMEMORY without an
+/// index.
 pub(crate) fn new_value(
     alloc: Global,
     declared: ValueType,

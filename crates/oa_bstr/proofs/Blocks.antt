@@ -7,7 +7,7 @@ use Rattle.std.proofs.lemmas.Nat.{from_le_bytes-to_le_bytes_4}
 use Rattle.oa_cells.specs.Windows.{values}
 use Rattle.oa_cells.proofs.Full.{values_of_full}
 use Rattle.oa_bstr.specs.Block.{block_of, block_text, IsBlock}
-use Rattle.oa_model.specs.Limits.{max_text_bytes}
+use Rattle.oa_model.specs.promise.Limits.{max_text_bytes}
 
 abbrev pub zeros : List ℕ
 zeros = 0 ∷ 0 ∷ []
@@ -27,9 +27,11 @@ pub is_block : (row : List (Option ℕ)) (bytes : List ℕ) → row ≡ map Some
     → IsBlock row × (block_text row ≡ bytes)
 is_block row bytes e short =
     let read : values row ≡ block_of bytes = ap values e ∙ values_of_full (block_of bytes) in
-    let behind : drop 4 (block_of bytes) ≡ bytes ++ zeros = ap (drop 4) (parts bytes) ∙ drop_at (to_le_bytes w32 (length bytes)) (bytes ++ zeros) 4 (length-count (length bytes)) in
+    let behind : drop 4 (block_of bytes) ≡ bytes ++ zeros = ap (drop 4) (parts bytes) ∙ drop_at (to_le_bytes w32 (length bytes)) (bytes ++ zeros) 4
+    (length-count (length bytes)) in
     let count : length bytes ≡ length (block_of bytes) - 6 = omega (arith, length-block bytes) in
-    let text : block_text row ≡ bytes = ap (λ all. take (length all - 6) (drop 4 all)) read ∙ ap (take (length (block_of bytes) - 6)) behind ∙ take_at bytes zeros (length (block_of bytes) - 6) count in
+    let text : block_text row ≡ bytes = ap (λ all. take (length all - 6) (drop 4 all)) read ∙ ap (take (length (block_of bytes) - 6)) behind
+    ∙ take_at bytes zeros (length (block_of bytes) - 6) count in
     (record { whole = e ∙ ap (λ t. map Some (block_of t)) (sym text); short = rw text short }, text)
 
 module _ (row : List (Option ℕ)) (block : IsBlock row) where
@@ -58,8 +60,10 @@ count_read bytes short = from_le_bytes-to_le_bytes_4 (length bytes) (omega (arit
 -- The text follows the count.
 pub text_bytes : (bytes : List ℕ) (end : ℕ) → end ≡ 4 + length bytes → drop 4 (take end (block_of bytes)) ≡ bytes
 text_bytes bytes end e =
-    let count = to_le_bytes w32 (length bytes) in let long : length (count ++ bytes) ≡ end = omega (arith, length-append count bytes, length-count (length bytes), e) in
-    ap (λ all. drop 4 (take end all)) (parts bytes ∙ sym (append_assoc count bytes zeros)) ∙ ap (drop 4) (take_at (count ++ bytes) zeros end long) ∙ drop_at count bytes 4 (length-count (length bytes))
+    let count = to_le_bytes w32 (length bytes) in let long : length (count ++ bytes) ≡ end =
+    omega (arith, length-append count bytes, length-count (length bytes), e) in
+    ap (λ all. drop 4 (take end all)) (parts bytes ∙ sym (append_assoc count bytes zeros)) ∙ ap (drop 4) (take_at (count ++ bytes) zeros end long)
+    ∙ drop_at count bytes 4 (length-count (length bytes))
 
 -- A block is made of its parts, one after another.
 pub joined : (bytes : List ℕ) → ([] ++ to_le_bytes w32 (length bytes) ++ bytes) ++ zeros ≡ block_of bytes

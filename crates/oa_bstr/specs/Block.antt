@@ -3,7 +3,7 @@
 use Rattle.std.specs.Prelude.{◌≡◌, ℕ, ◌-◌, ◌≤◌, List, [], ◌∷◌, ◌++◌, map, length, take, drop, Option, Some}
 use Rattle.std.specs.Int.{w32, to_le_bytes}
 use Rattle.oa_cells.specs.Windows.{values}
-use Rattle.oa_model.specs.Limits.{max_text_bytes}
+use Rattle.oa_model.specs.promise.Limits.{max_text_bytes}
 
 -- The bytes of the block of a text.
 unfoldable pub block_of : List ℕ → List ℕ

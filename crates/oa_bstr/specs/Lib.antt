@@ -1,2 +1,3 @@
 pub mod Block
 pub mod Text
+pub mod promise

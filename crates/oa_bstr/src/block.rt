@@ -1,17 +1,18 @@
 //! The block of a text: making, reading and freeing it.
 ghost use Rattle.std.specs.Prelude.{◌≡◌, ◌+◌, ◌≤◌, length, take, IfOk};
 ghost use Rattle.oa_bstr.specs.Block.{block_of, block_text, IsBlock};
-ghost use Rattle.oa_model.specs.Limits.{max_text_bytes};
+ghost use Rattle.oa_model.specs.promise.Limits.{max_text_bytes};
 
 use oa_cells::{Partial, Row};
 use std::alloc::{AllocError, Global};
 
-/// The number of bytes before the text, which encode its length, and of those after it, which are a 16-bit zero.
+/// The number of bytes before the text, which encode its length.
 const COUNT_BYTES: usize = 4;
 
+/// The number of bytes after the text, which are a 16-bit zero.
 const ZERO_BYTES: usize = 2;
 
-/// Makes the block of a text. Err: the allocation fails.
+/// Makes the block of a text of these bytes. Err: the allocation fails.
 pub(crate) fn new_block(alloc: Global, bytes: &[u8]) -> Result<Row<u8>, AllocError>
     requires { length bytes.now ≤ max_text_bytes }
     ensures { IfOk result (λ r. IsBlock r × (block_text r ≡ bytes.now)) }
@@ -42,7 +43,7 @@ pub(crate) fn count(row: &Row<u8>) -> u32
     u32::from_le_bytes([head[0], head[1], head[2], head[3]])
 }
 
-/// Returns the text in a block.
+/// Returns the bytes of the text in a block.
 pub(crate) fn text(row: &Row<u8>) -> &[u8]
     requires { IsBlock row.now }
     ensures bytes { result.now ≡ block_text row.now }
@@ -53,7 +54,7 @@ pub(crate) fn text(row: &Row<u8>) -> &[u8]
     &head_and_text[COUNT_BYTES..]
 }
 
-/// Frees a block in one step.
+/// Frees the block of a text in one step.
 pub(crate) fn free(row: Row<u8>)
     requires { IsBlock row }
 {

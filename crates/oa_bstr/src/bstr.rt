@@ -8,8 +8,9 @@ ghost use Rattle.std.specs.Cmp.Rules.{comparing};
 ghost use Rattle.std.specs.Ordering.{as_partial_cmp, eq_by_cmp};
 ghost use Rattle.std.proofs.lemmas.Cmp.{eq_by_cmp_equiv};
 ghost use Rattle.oa_bstr.specs.Block.{block_text, IsBlock};
-ghost use Rattle.oa_model.specs.Limits.{max_text_bytes};
-ghost use Rattle.oa_bstr.specs.Text.{bytes_of, unit_of, text_cmp, texts_total};
+ghost use Rattle.oa_model.specs.promise.Limits.{max_text_bytes};
+ghost use Rattle.oa_bstr.specs.promise.Text.{bytes_of, text_cmp};
+ghost use Rattle.oa_bstr.specs.Text.{unit_of, texts_total};
 ghost use Rattle.oa_bstr.specs.declared.error.BstrError.TheVariants.{TooLong};
 
 use crate::block;
@@ -21,10 +22,12 @@ use std::cmp::Ordering;
 use std::fmt;
 use std::marker::Model;
 
-/// A BSTR: null, or a text of at most `MAX_TEXT_BYTES`. Null and the empty text are different values.
+/// A BSTR: null, or a text of at most `MAX_TEXT_BYTES`. Null and the empty text are different
+/// values.
 ///
-/// A text has a block of memory of its own with the layout of MS-OAUT section 2.2.23: a 32-bit little-endian count of the bytes, the bytes,
-/// and a 16-bit zero. The block is freed with the `Bstr`, in one step.
+/// A text has a block of memory of its own with the layout of MS-OAUT section 2.2.23: a 32-bit
+/// little-endian count of the bytes, the bytes, and a 16-bit zero. The block is freed with the
+/// `Bstr`, in one step.
 pub struct Bstr {
     row: Option<Row<u8>>,
 }
@@ -47,8 +50,8 @@ impl Bstr {
 
     /// Makes a text of these bytes, in a block of its own.
     ///
-    /// Errors: `TooLong` if and only if there are more than `MAX_TEXT_BYTES`, before any allocation; `Memory` if the allocation of the
-    /// block fails.
+    /// Errors: `TooLong` if and only if there are more than `MAX_TEXT_BYTES`, before any
+    /// allocation; `Memory` if the allocation of the block fails.
     pub fn from_bytes(alloc: Global, bytes: &[u8]) -> Result<Bstr, BstrError>
         ensures value { IfOk result (λ b. b ≡ Some bytes.now) }
         ensures too_long { IsErrOf result TooLong ↔ (max_text_bytes < length bytes.now) }
@@ -89,8 +92,8 @@ impl Bstr {
         }
     }
 
-    /// Returns the `i`-th 16-bit unit of the text, made of the bytes `2 * i` (low) and `2 * i + 1` (high). The text must have the low byte;
-    /// the high one is 0 if the text ends before it.
+    /// Returns the `i`-th 16-bit unit of the text, made of the bytes `2 * i` (low) and `2 * i + 1`
+    /// (high). The text must have the low byte; the high one is 0 if the text ends before it.
     pub fn unit(&self, i: usize) -> u16
         requires { 2 * i < length (bytes_of self.now) }
         ensures { result ≡ unit_of (bytes_of self.now) i }
@@ -104,7 +107,8 @@ impl Bstr {
         low as u16 + 256 * high as u16
     }
 
-    /// Returns an equal BSTR: a text in a block of its own, or null, which allocates nothing. Err: the allocation fails.
+    /// Returns an equal BSTR: a text in a block of its own, or null, which allocates nothing. Err:
+    /// the allocation fails.
     pub fn copy(&self, alloc: Global) -> Result<Bstr, AllocError>
         ensures value { IfOk result (λ b. b ≡ self.now) }
         ensures null { self.now ≡ None → IsOk result }

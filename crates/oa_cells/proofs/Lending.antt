@@ -35,9 +35,11 @@ module _ {M : Type 1} {𝓤 : Ura M} (𝓛 : Logic 𝓤) (life : Lft) (R : Rattl
   row_lends block o [] = Lends-nothing 𝓛 ftrue life
   row_lends block o (slot ∷ slots) =
       let next = o + type_size R in
-      Lends-both 𝓛 (place_owned R block o slot) (row_owned R block next slots) (place_lent R block o slot) (row_lent R block next slots) life (place_lends block o slot) (row_lends block next slots)
+      Lends-both 𝓛 (place_owned R block o slot) (row_owned R block next slots) (place_lent R block o slot) (row_lent R block next slots) life
+      (place_lends block o slot) (row_lends block next slots)
 
   pub places_lend : (at : Ptr) (slots : List (Option R.Denot)) → Lends 𝓛 (places_owned R at slots) (places_lent R at slots) life
   places_lend null_ptr slots = Lends-false 𝓛 (said ffalse) life
   places_lend (block_ptr block o) slots =
-      Lends-both 𝓛 (bounded R slots) (row_owned R block o slots) (said (bounded R slots)) (row_lent R block o slots) life (Lends-said 𝓛 (bounded R slots) tt life) (row_lends block o slots)
+      Lends-both 𝓛 (bounded R slots) (row_owned R block o slots) (said (bounded R slots)) (row_lent R block o slots) life
+      (Lends-said 𝓛 (bounded R slots) tt life) (row_lends block o slots)

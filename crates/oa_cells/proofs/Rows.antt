@@ -49,7 +49,8 @@ abbrev pub Word : RattleType
 Word = Struct pointer_alone
 
 pub mark_made : (E : El) {M : Type 1} {𝓤 : Ura M} (𝓛 : Logic 𝓤) → ent 𝓤 (emp 𝓤) (sem 𝓛 ((Mark E).own_val (tt, tt) (mark ∷ [])))
-mark_made E 𝓛 = makes_shadow 𝓛 ((Mark E).own_val (tt, tt) (mark ∷ [])) (λ vss. (tt, ((λ uss. (tt, tt)), tt))) ((vstruct vnil ∷ [], tt), (refl, ((tt, (refl, tt)), tt)))
+mark_made E 𝓛 = makes_shadow 𝓛 ((Mark E).own_val (tt, tt) (mark ∷ [])) (λ vss. (tt, ((λ uss. (tt, tt)), tt)))
+    ((vstruct vnil ∷ [], tt), (refl, ((tt, (refl, tt)), tt)))
 
 module _ {M : Type 1} {𝓤 : Ura M} {𝓛 : Logic 𝓤} {K : Type 0} {Γ : List (Item 𝓤)} {G : Goal 𝓤 𝓛.H} where
   pub mark_had : K → (E : El) (vs : List Val) → (vs ≡ mark ∷ [] → Seq K 𝓛 Γ G) → Seq K 𝓛 (‵ ((Mark E).own_val (tt, tt) vs) ∷ Γ) G
@@ -97,10 +98,12 @@ module _ (Y : RattleType) (L : Laws Y) {M : Type 1} {𝓤 : Ura M} where
         (ex 𝓤 (λ (v : Val). guard 𝓤 (Good (layout Y) v) (sep 𝓤 (H.at full_share (layout Y) b o v) (sem 𝓛 (Y.own_val x (v ∷ []))))))
     value_out x b o =
         qed 𝓛 (‵ (part_at (param 0 Y) full_share x b o) ∷ []) ∵
-        use1 𝓛 (some (λ (v : Val). ‵ (fat full_share (layout Y) b o v) ⊛ ‵ (Y.own_val x (v ∷ [])))) (part_out 𝓛 (param 0 Y) refl full_share x b o) $ pick ! (λ v. split ! $ move ! (1 ∷ []) $
+        use1 𝓛 (some (λ (v : Val). ‵ (fat full_share (layout Y) b o v) ⊛ ‵ (Y.own_val x (v ∷ [])))) (part_out 𝓛 (param 0 Y) refl full_share x b o) $ pick !
+        (λ v. split ! $ move ! (1 ∷ []) $
         peeks ! (param 0 Y) (Is (param 0 Y)) (shows 𝓛 (param 0 Y)) x (v ∷ []) (λ known.
         let typed = ((param_laws 0 Y L).lawful 𝓛).typed x (v ∷ []) known in
-        show ! (λ (w : Val). guard 𝓤 (Good (layout Y) w) (sep 𝓤 (H.at full_share (layout Y) b o w) (sem 𝓛 (Y.own_val x (w ∷ []))))) v $ check ! typed.0 $ move ! (1 ∷ 0 ∷ []) $ done !))
+        show ! (λ (w : Val). guard 𝓤 (Good (layout Y) w) (sep 𝓤 (H.at full_share (layout Y) b o w) (sem 𝓛 (Y.own_val x (w ∷ []))))) v $ check ! typed.0 $ move !
+        (1 ∷ 0 ∷ []) $ done !))
 
     pub value_in : (x : Y.Denot) (b o : ℕ) (v : Val) → ent 𝓤 (sep 𝓤 (H.at full_share (layout Y) b o v) (sem 𝓛 (Y.own_val x (v ∷ []))))
         (sem 𝓛 (part_at (param 0 Y) full_share x b o))
@@ -178,7 +181,8 @@ module _ (E : El) {M : Type 1} {𝓤 : Ura M} (𝓛 : Logic 𝓤) (b : ℕ) wher
   row_to_room (slot ∷ slots) o =
       qed 𝓛 (‵ (Place o slot) ∷ ‵ (Row (o + s) slots) ∷ []) ∵
       use1 𝓛 (‵ (froom (elτ E) b o)) (place_to_room slot o) $ move ! (1 ∷ []) $
-      use1 𝓛 (‵ (froom (ty_array (elτ E) (length slots)) b (o + s))) (row_to_room slots (o + s)) $ move ! (1 ∷ []) $ by ! (𝓛.laws.room_cons (elτ E) (length slots) b o)
+      use1 𝓛 (‵ (froom (ty_array (elτ E) (length slots)) b (o + s))) (row_to_room slots (o + s)) $ move ! (1 ∷ []) $ by !
+      (𝓛.laws.room_cons (elτ E) (length slots) b o)
 
   module _ (κ : Lft) where
     values_lent : (xs : List (el_x E)) (rest : List (Slot E)) (o : ℕ)

@@ -19,5 +19,5 @@ module _ {X : Type 0} where
   values (Some x ∷ slots) = x ∷ values slots
 
   -- The row of a window.
-  unfoldable pub laid : ℕ → List X → ℕ → List (Option X)
-  laid before items after = replicate before None ++ (map Some items ++ replicate after None)
+  unfoldable pub window_row : ℕ → List X → ℕ → List (Option X)
+  window_row before items after = replicate before None ++ (map Some items ++ replicate after None)

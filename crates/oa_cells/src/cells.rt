@@ -14,8 +14,8 @@ use core::mem::replace_with;
 use std::alloc::{AllocError, Global};
 use std::marker::Model;
 
-/// An array of elements in one block of memory. Contracts see it as the list of its elements. Its length changes only by `resized`. The
-/// struct has two words.
+/// An array of elements in one block of memory. Contracts see it as the list of its elements. Its
+/// length changes only by `resized`. The struct has two words.
 pub struct Cells<T> {
     row: Row<T>,
     len: usize,
@@ -65,10 +65,11 @@ impl<T> Cells<T> {
 }
 
 impl<T: Drop> Cells<T> {
-    /// Makes an array of `len` elements: `fill` is called with each index below `len` in turn and returns the element.
+    /// Makes an array of `len` elements: `fill` is called with each index below `len` in turn and
+    /// returns the element.
     ///
-    /// At the first error of `fill`, the elements made so far are dropped, the block is freed and the error is returned. If the allocation
-    /// of the block fails, the error is made from an `AllocError`.
+    /// Err: the first error of `fill`, or one made from an `AllocError` if the allocation of the
+    /// block fails. The elements made so far are dropped, and the block is freed.
     pub fn filled_by<E: From<AllocError>, F: FnMut(usize) -> Result<T, E>>(
         alloc: Global,
         len: usize,
@@ -88,10 +89,12 @@ impl<T: Drop> Cells<T> {
         })
     }
 
-    /// Changes the length. The first elements stay, each at its index. Those from `len` on are dropped. New ones are made by `fill`, which
-    /// is called with each new index in turn.
+    /// Changes the number of elements to `len`. The first elements stay, each at its index. Those
+    /// from `len` on are dropped. New ones are made by `fill`, which is called with each new index
+    /// in turn.
     ///
-    /// At an error, of `fill` or made from an `AllocError`, the elements are unchanged, and new ones made so far are dropped.
+    /// Err: the first error of `fill`, or one made from an `AllocError`. The elements are
+    /// unchanged, and new ones made so far are dropped.
     pub fn resized<E: From<AllocError>, F: FnMut(usize) -> Result<T, E>>(
         &mut self,
         len: usize,
@@ -113,8 +116,9 @@ impl<T: Drop> Cells<T> {
         Ok(())
     }
 
-    /// Moves the first elements into the empty places of `part` before its values, as many as there are such places. The other elements are
-    /// dropped, and their block is freed.
+    /// Moves the first elements into the empty places of `part` before its values, one into each.
+    /// The other elements are dropped, and their block is freed. Returns the array of `len`
+    /// elements.
     fn moved(self, mut part: Partial<T>, len: usize) -> Cells<T>
         requires { (part.before ≤ length self) × (part.after ≡ 0) × (len ≡ part.before + length part.items) }
         ensures { result ≡ take part.before self ++ part.items }
@@ -140,8 +144,9 @@ impl<T: Drop> Drop for Cells<T> {
     }
 }
 
-/// Makes a block of `len` places: empty ones for the first `kept` elements, or for as many of them as fit, followed by the values that
-/// `fill` returns.
+/// Makes a block of `len` places: empty ones for the first `kept` elements, or for those of them
+/// that fit. After them are the values that `fill` returns. Err: the first error of `fill`, or one
+/// made from an `AllocError`.
 fn new_behind<T: Drop, E: From<AllocError>, F: FnMut(usize) -> Result<T, E>>(
     alloc: Global,
     kept: usize,

@@ -7,8 +7,9 @@ ghost use Rattle.oa_cells.specs.Windows.{IsWindow};
 
 use crate::partial::Partial;
 
-/// Fills the places from `from` to `to`, which is the end of the block: `fill` is called with each of these indices in turn. At the first
-/// error, the values made so far are dropped and the block is freed.
+/// Fills the places from `from` to `to`, which is the end of the block, and returns the block.
+/// `fill` is called with each of these indices in turn. Err: the first error of `fill`; the values
+/// made so far are dropped and the block is freed.
 pub(crate) fn fill_to_end<T: Drop, E, F: FnMut(usize) -> Result<T, E>>(
     mut part: Partial<T>,
     from: usize,

@@ -1,10 +1,10 @@
 //! Raw memory as lists: a block of places, and an array on top of it.
 //!
-//! Contract: `Cells` behaves as a list: `filled_by` fills it, `replace` changes one element, `resized` changes its length. No block is
-//! accessed outside its bounds or freed twice.
+//! Contract: `Cells` behaves as a list: `filled_by` fills it, `replace` changes one element,
+//! `resized` changes its length. No block is accessed outside its bounds or freed twice.
 //!
-//! Used by oa_bstr and oa_array, which store their bytes and elements in it, and by oa_wire_array and oa_layout, which fill it while they
-//! decode.
+//! Used by oa_bstr and oa_array, which store their bytes and elements in it, and by oa_wire_array
+//! and oa_formats, which fill it while they decode.
 #![tactic(auto)]
 
 mod cells;

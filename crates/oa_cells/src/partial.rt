@@ -1,6 +1,6 @@
 //! A block that is being filled or emptied.
 ghost use Rattle.std.specs.Prelude.{◌≡◌, ◌+◌, ◌-◌, ◌<◌, ◌≤◌, [], ◌∷◌, ◌++◌, Some, map, length, take, IfOk};
-ghost use Rattle.oa_cells.specs.Windows.{FilledWindow, values, laid, IsWindow};
+ghost use Rattle.oa_cells.specs.Windows.{FilledWindow, values, window_row, IsWindow};
 
 use crate::row::Row;
 use std::alloc::{AllocError, Global};
@@ -8,7 +8,8 @@ use std::marker::Model;
 
 /// A block that is being filled or emptied: empty places, then values, then empty places.
 ///
-/// It does not implement `Drop`: its owner must call `full`, or inside this crate `free` or `clear`.
+/// It does not implement `Drop`: its owner must call `full`, or inside this crate `free` or
+/// `clear`.
 pub struct Partial<T> {
     row: Row<T>,
     from: usize,
@@ -24,12 +25,13 @@ impl<T> Model for Partial<T> {
     ghost invariant = { λ p. record {
       count : p.from + length (values p.row) ≡ p.to;
       fits : p.to ≤ p.len;
-      shape : p.row ≡ laid p.from (values p.row) (p.len - p.to);
+      shape : p.row ≡ window_row p.from (values p.row) (p.len - p.to);
     } };
 }
 
 impl<T> Partial<T> {
-    /// Allocates a block of `len` empty places, whose values will begin at the index `at`, at most `len`. Err: the allocation fails.
+    /// Returns a new block of `len` empty places, whose values will begin at the index `at`, at
+    /// most `len`. Err: the allocation fails.
     pub fn vacant(alloc: Global, len: usize, at: usize) -> Result<Partial<T>, AllocError>
         requires { at ≤ len }
         ensures { IfOk result (λ p. IsWindow p at [] (len - at)) }
@@ -127,7 +129,7 @@ impl<T> Partial<T> {
 }
 
 impl<T: Copy> Partial<T> {
-    /// Appends copies of these values after the others. As many places must be empty there.
+    /// Appends copies of these values after the others. That many places must be empty there.
     pub fn extend_from_slice(&mut self, items: &[T])
         requires { length items.now ≤ self.old.after }
         ensures { IsWindow self.new self.old.before (self.old.items ++ items.now) (self.old.after - length items.now) }
@@ -141,7 +143,7 @@ impl<T: Copy> Partial<T> {
 }
 
 impl<T: Drop> Partial<T> {
-    /// Drops the values after the first `keep`, the last one first.
+    /// Drops the values after the first `keep` values, the last one first.
     pub(crate) fn shorten(&mut self, keep: usize)
         requires { keep ≤ length self.old.items }
         ensures { IsWindow self.new self.old.before (take keep self.old.items) (self.old.after + (length self.old.items - keep)) }

@@ -1,7 +1,7 @@
 //! The functions of this crate that use a pointer; no others do. Each is proved by hand.
 //!
-//! Three values together own a block: its start, its places, and the right to free it. None of them can be lost or used twice. What they
-//! know is in ghost fields; at run time they take one word.
+//! Three values together own a block: its start, its places, and the right to free it. None of them
+//! can be lost or used twice. What they know is in ghost fields; at run time they take one word.
 ghost use Rattle.std.specs.Prelude.{◌≡◌, ℕ, ◌<◌, List, Option, Some, None, map, length, take, replicate, get_or, slice_set, IfOk, ⊤};
 ghost use Rattle.std.specs.Vec.Ownership.{FitsInBlock};
 ghost use base.Fml.{ftrue};
@@ -31,7 +31,8 @@ impl<T> Clone for Start<T> {
 
 impl<T> Copy for Start<T> {}
 
-/// The places of a block and the values in them. `slots` contains for each place None if it is empty, otherwise its value.
+/// The places of a block and the values in them. `slots` contains for each place None if it is
+/// empty, otherwise its value.
 pub struct Places<T> {
     mark: PhantomData<*const T>,
     ghost at: { Ptr },
@@ -58,7 +59,8 @@ impl<T, A: Allocator> Model for FreeRight<T, A> {
     ghost also_shares = { λ _ _ _. ftrue };
 }
 
-/// Allocates a block of `len` empty places by one call of the allocator.
+/// Allocates a block of `len` empty places by one call of the allocator. Returns its start, its
+/// places and the right to free it. Err: the allocation fails.
 pub(crate) fn allocate<T, A: Allocator>(
     alloc: &A,
     len: usize,
@@ -82,8 +84,9 @@ pub(crate) fn allocate<T, A: Allocator>(
     }
 }
 
-/// Frees the block in one step. Values that are still in it are forgotten, not dropped. The callers of `Row::freed` require that there are
-/// none, or that values of their type need no drop.
+/// Frees the block of `len` places in one step. Values that are still in it are forgotten, not
+/// dropped. The callers of `Row::freed` require that there are none, or that values of their type
+/// need no drop.
 pub(crate) fn release<T, A: Allocator>(
     alloc: &A,
     start: Start<T>,
@@ -102,7 +105,7 @@ pub(crate) fn release<T, A: Allocator>(
 }
 
 impl<T> Places<T> {
-    /// Writes a value into an empty place.
+    /// Writes a value into the empty place at an index.
     pub(crate) fn write(&mut self, start: Start<T>, index: usize, item: T)
         requires { (start.ptr ≡ self.old.at) × (index < length self.old.slots) × (get_or self.old.slots index None ≡ None) }
         ensures { (self.new.at ≡ self.old.at) × (self.new.slots ≡ slice_set self.old.slots index (Some item)) }
@@ -110,7 +113,7 @@ impl<T> Places<T> {
         unsafe { start.ptr.add(index).write(item) }
     }
 
-    /// Moves a value out of its place, which is empty afterwards.
+    /// Moves the value out of the place at an index, which is empty afterwards, and returns it.
     pub(crate) fn read(&mut self, start: Start<T>, index: usize) -> T
         requires { (start.ptr ≡ self.old.at) × HasValue self.old.slots index }
         ensures { (get_or self.old.slots index None ≡ Some result) × (self.new.at ≡ self.old.at)

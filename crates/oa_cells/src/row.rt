@@ -9,8 +9,8 @@ use std_alloc::room::may_hold;
 
 /// A block of memory: a row of places, each empty or with a value. The struct has one word.
 ///
-/// A row does not implement `Drop`: its owner must free it, by `free_plain` if its values need no drop, or inside this crate by `free`,
-/// after each place has become empty.
+/// A row does not implement `Drop`: its owner must free it, by `free_plain` if its values need no
+/// drop, or inside this crate by `free`, after each place has become empty.
 pub struct Row<T> {
     start: Start<T>,
     places: Places<T>,
@@ -28,8 +28,8 @@ impl<T> Model for Row<T> {
 }
 
 impl<T> Row<T> {
-    /// Allocates a block of `len` empty places. Err: the allocation fails, or the block would have 2 ^ 63 places or bytes or more; then the
-    /// allocator is not called.
+    /// Returns a new block of `len` empty places. Err: the allocation fails, or the block would
+    /// have 2 ^ 63 places or bytes or more; then the allocator is not called.
     pub(crate) fn vacant(alloc: Global, len: usize) -> Result<Row<T>, AllocError>
         ensures { IfOk result (λ r. r ≡ replicate len None) }
     {
@@ -50,7 +50,7 @@ impl<T> Row<T> {
         self.alloc
     }
 
-    /// Writes a value into an empty place.
+    /// Writes a value into the empty place at an index.
     pub(crate) fn put(&mut self, index: usize, item: T)
         requires { (index < length self.old) × (get_or self.old index None ≡ None) }
         ensures { self.new ≡ slice_set self.old index (Some item) }
@@ -58,7 +58,7 @@ impl<T> Row<T> {
         self.places.write(self.start, index, item);
     }
 
-    /// Moves a value out of its place, which is empty afterwards.
+    /// Moves the value out of the place at an index, which is empty afterwards, and returns it.
     pub(crate) fn take(&mut self, index: usize) -> T
         requires { HasValue self.old index }
         ensures value { get_or self.old index None ≡ Some result }

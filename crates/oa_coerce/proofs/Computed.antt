@@ -1,23 +1,30 @@
 -- The computed result is the coercion.
-use Rattle.std.specs.Prelude.{◌≡◌, ◌^◌, Bool, true, false, ℤ, pos, negsuc, cond, Result, Ok, Err, IfOk, IfErr}
-use Rattle.std.proofs.Common.{refl, sym, ap, subst, ◌∙◌, arith}
-use Rattle.std.proofs.lemmas.Bool.{cond_both, cond-true, lt-ltb, ltb-true, false≢true, true≢false}
-use Rattle.oa_model.specs.Integers.{in_range}
+use Rattle.std.specs.Prelude.{◌≡◌, ◌^◌, ℕ, nat_lt, FitsSigned, Bool, true, false, ℤ, pos, negsuc, cond, Result, Ok, Err, IfOk, IfErr}
+use Rattle.std.proofs.Common.{refl, sym, ap, subst, ◌∙◌}
+use mir.Val.{hbits}
+use Rattle.std.specs.Int.{Width}
+use Rattle.std.proofs.lemmas.Bool.{cond_both, cond-true, and_parts, lt-ltb, ltb-true, false≢true, true≢false}
+use Rattle.oa_model.specs.promise.Integers.{in_range, bits_of}
+use Rattle.oa_model.specs.promise.Types.{is_signed_type}
 use Rattle.oa_model.specs.declared.var_type.VarType.{VarType}
 use Rattle.oa_model.specs.declared.var_type.VarType.TheVariants as types
 use Rattle.oa_model.specs.declared.var_type.ValueType.{ValueType}
 use Rattle.oa_model.specs.declared.var_type.ValueType.TheVariants as kinds
-use Rattle.oa_variant.specs.Keys.{key_number}
-use Rattle.oa_variant.specs.Scalars.{type_of, same_type, IsScalar}
+use Rattle.oa_variant.specs.promise.Keys.{key_number}
+use Rattle.oa_variant.specs.promise.Scalars.{type_of, same_type}
+use Rattle.oa_variant.specs.Scalars.{IsScalar}
 use Rattle.oa_variant.specs.declared.scalar.Scalar.{Scalar}
 use Rattle.oa_variant.specs.declared.scalar.Scalar.TheVariants as scalars
 use Rattle.oa_variant.specs.declared.variant.Variant.{Variant}
 use Rattle.oa_variant.specs.declared.variant.Variant.TheVariants.{One, Array}
-use Rattle.oa_coerce.specs.Numbers.{counts_units, decimal_places, number_in, IsNearest}
-use Rattle.oa_coerce.specs.Coercions.{rule_for, Makes, MakesValue, CoercesScalar, Coerces}
+use Rattle.oa_coerce.specs.promise.Numbers.{counts_units, decimal_places, number_in}
+use Rattle.oa_coerce.specs.Numbers.{IsNearest}
+use Rattle.oa_coerce.specs.promise.Coercions.{rule_for}
+use Rattle.oa_coerce.specs.Coercions.{Makes, MakesValue, CoercesScalar, Coerces}
 use Rattle.oa_coerce.specs.Refusals.{RefusesScalar, RefusesCoercion}
-use Rattle.oa_coerce.specs.Answers.{nearest_count, of_count, answer_by, coerced_scalar, one, value_by, coerced, is_memory, IsScalarAnswer}
-use Rattle.oa_coerce.specs.Answers.{IsCoercion}
+use Rattle.oa_coerce.specs.promise.Answers.{nearest_count, of_count, answer_by, coerced_scalar, one_result, value_by}
+use Rattle.oa_coerce.specs.promise.Answers.{coerced}
+use Rattle.oa_coerce.specs.Answers.{is_memory, IsScalarAnswer, IsCoercion}
 use Rattle.oa_coerce.specs.declared.fault.CoerceFault.{CoerceFault}
 use Rattle.oa_coerce.specs.declared.fault.CoerceFault.TheVariants.{Overflow, TypeMismatch, Memory}
 use Rattle.oa_coerce.specs.declared.rule.Rule.{Rule}
@@ -26,20 +33,19 @@ use Rattle.oa_coerce.proofs.Nearest.{one_nearest, computed_is_nearest}
 use Rattle.oa_coerce.proofs.Rules.{by_rule, made_back}
 use Rattle.oa_coerce.proofs.Lifted.{lifted, lowered}
 
+-- the range of a signed type is that of its width
+signed_ranged : (t : VarType) (w : Width) (z : ℤ) → is_signed_type t ≡ true → bits_of t ≡ hbits w → FitsSigned w z → in_range t z ≡ true
+signed_ranged t w (pos n) signed bits h = rw bits (lt-ltb n (2 ^ hbits w) h.sfits)
+signed_ranged t w (negsuc n) signed bits h = rw (signed, bits) (lt-ltb n (2 ^ hbits w) h.sfits)
+
+fits_signed : (t : VarType) (w : Width) (z : ℤ) → is_signed_type t ≡ true → bits_of t ≡ hbits w → in_range t z ≡ true → FitsSigned w z
+fits_signed t w (pos n) signed bits e = record { sfits = ltb-true n (2 ^ hbits w) (subst (λ (k : ℕ). nat_lt n (2 ^ k) ≡ true) bits e) }
+fits_signed t w (negsuc n) signed bits e =
+    let below = (and_parts (is_signed_type t) (nat_lt n (2 ^ bits_of t)) e).1 in
+    record { sfits = ltb-true n (2 ^ hbits w) (subst (λ (k : ℕ). nat_lt n (2 ^ k) ≡ true) bits below) }
+
 -- a scalar of an integer type, or of CY, has a number in the range of its type
 ranged : (m : Scalar) → counts_units (type_of m) ≡ true → IsScalar m → in_range (type_of m) (key_number m) ≡ true
-ranged (scalars.I1 (pos n)) u h = lt-ltb n (2 ^ 7) (omega (arith, h.sfits))
-ranged (scalars.I1 (negsuc n)) u h = lt-ltb n (2 ^ 7) (omega (arith, h.sfits))
-ranged (scalars.I2 (pos n)) u h = lt-ltb n (2 ^ 15) (omega (arith, h.sfits))
-ranged (scalars.I2 (negsuc n)) u h = lt-ltb n (2 ^ 15) (omega (arith, h.sfits))
-ranged (scalars.I4 (pos n)) u h = lt-ltb n (2 ^ 31) (omega (arith, h.sfits))
-ranged (scalars.I4 (negsuc n)) u h = lt-ltb n (2 ^ 31) (omega (arith, h.sfits))
-ranged (scalars.I8 (pos n)) u h = lt-ltb n (2 ^ 63) (omega (arith, h.sfits))
-ranged (scalars.I8 (negsuc n)) u h = lt-ltb n (2 ^ 63) (omega (arith, h.sfits))
-ranged (scalars.Int (pos n)) u h = lt-ltb n (2 ^ 31) (omega (arith, h.sfits))
-ranged (scalars.Int (negsuc n)) u h = lt-ltb n (2 ^ 31) (omega (arith, h.sfits))
-ranged (scalars.Cy (pos n)) u h = lt-ltb n (2 ^ 63) (omega (arith, h.sfits))
-ranged (scalars.Cy (negsuc n)) u h = lt-ltb n (2 ^ 63) (omega (arith, h.sfits))
 ranged (scalars.Ui1 n) u h = lt-ltb n (2 ^ 8) h
 ranged (scalars.Ui2 n) u h = lt-ltb n (2 ^ 16) h
 ranged (scalars.Ui4 n) u h = lt-ltb n (2 ^ 32) h
@@ -51,22 +57,11 @@ ranged (scalars.Bool b) u h = absurd (false≢true u)
 ranged (scalars.Error n) u h = absurd (false≢true u)
 ranged (scalars.Bstr t) u h = absurd (false≢true u)
 ranged (scalars.Decimal d) u h = absurd (false≢true u)
+ranged s u h = signed_ranged (type_of s) _ (key_number s) refl refl h
 
 -- and each number in the range of such a type is that of a scalar of it
 made_of : (to : VarType) (n : ℤ) → counts_units to ≡ true → in_range to n ≡ true
     → IsScalar (of_count to n) × (type_of (of_count to n) ≡ to) × (key_number (of_count to n) ≡ n)
-made_of types.I1 (pos n) u e = (record { sfits = ltb-true n (2 ^ 7) e }, refl, refl)
-made_of types.I1 (negsuc n) u e = (record { sfits = ltb-true n (2 ^ 7) e }, refl, refl)
-made_of types.I2 (pos n) u e = (record { sfits = ltb-true n (2 ^ 15) e }, refl, refl)
-made_of types.I2 (negsuc n) u e = (record { sfits = ltb-true n (2 ^ 15) e }, refl, refl)
-made_of types.I4 (pos n) u e = (record { sfits = ltb-true n (2 ^ 31) e }, refl, refl)
-made_of types.I4 (negsuc n) u e = (record { sfits = ltb-true n (2 ^ 31) e }, refl, refl)
-made_of types.I8 (pos n) u e = (record { sfits = ltb-true n (2 ^ 63) e }, refl, refl)
-made_of types.I8 (negsuc n) u e = (record { sfits = ltb-true n (2 ^ 63) e }, refl, refl)
-made_of types.Int (pos n) u e = (record { sfits = ltb-true n (2 ^ 31) e }, refl, refl)
-made_of types.Int (negsuc n) u e = (record { sfits = ltb-true n (2 ^ 31) e }, refl, refl)
-made_of types.Cy (pos n) u e = (record { sfits = ltb-true n (2 ^ 63) e }, refl, refl)
-made_of types.Cy (negsuc n) u e = (record { sfits = ltb-true n (2 ^ 63) e }, refl, refl)
 made_of types.Ui1 (pos n) u e = (ltb-true n (2 ^ 8) e, refl, refl)
 made_of types.Ui1 (negsuc n) u e = absurd (false≢true e)
 made_of types.Ui2 (pos n) u e = (ltb-true n (2 ^ 16) e, refl, refl)
@@ -84,6 +79,7 @@ made_of types.Error n u e = absurd (false≢true u)
 made_of types.Bstr n u e = absurd (false≢true u)
 made_of types.Decimal n u e = absurd (false≢true u)
 made_of types.Variant n u e = absurd (false≢true u)
+made_of t n u e = (fits_signed t _ n refl refl e, refl, refl)
 
 -- a number in range is made by Nearest
 in_range_is_made : (s : Scalar) (to : VarType) → counts_units to ≡ true → (n : ℤ) → n ≡ nearest_count (number_in s) (decimal_places to)
@@ -159,7 +155,7 @@ scalar_refused s to Memory h = absurd h
 
 -- values
 
-by_one : (r : Rule) (s : Scalar) (to : VarType) → value_by r (One s) (kinds.One to) ≡ one (answer_by r s to)
+by_one : (r : Rule) (s : Scalar) (to : VarType) → value_by r (One s) (kinds.One to) ≡ one_result (answer_by r s to)
 by_one Unchanged s to = refl
 by_one Zero s to = refl
 by_one Nearest s to = refl
@@ -167,11 +163,11 @@ by_one Exact s to = refl
 by_one ToTruth s to = refl
 by_one NoRule s to = refl
 
-of_one : (s : Scalar) (to : VarType) → coerced (One s) (kinds.One to) ≡ one (coerced_scalar s to)
+of_one : (s : Scalar) (to : VarType) → coerced (One s) (kinds.One to) ≡ one_result (coerced_scalar s to)
 unfolding coerced coerced_scalar
 of_one s to = by_one (rule_for (type_of s) to) s to
 
-made_one : (r : Result Scalar CoerceFault) (made : Variant) → one r ≡ Ok made → (m : Scalar) × (r ≡ Ok m) × (made ≡ One m)
+made_one : (r : Result Scalar CoerceFault) (made : Variant) → one_result r ≡ Ok made → (m : Scalar) × (r ≡ Ok m) × (made ≡ One m)
 made_one (Ok m) made h = (m, refl, sym (ap (λ r. value_in r (One m)) h))
 made_one (Err f) made h = absurd (false≢true (ap is_value h))
 
@@ -179,7 +175,7 @@ pub value_answer : (v made : Variant) (to : ValueType) → Coerces v to made →
 unfolding coerced
 value_answer (One s) made (kinds.One to) = λ h.
     let x = lowered (rule_for (type_of s) to) s to made h in
-    of_one s to ∙ (ap one (scalar_answer s x.0 to x.2) ∙ ap Ok (sym x.1))
+    of_one s to ∙ (ap one_result (scalar_answer s x.0 to x.2) ∙ ap Ok (sym x.1))
 value_answer (One s) made (kinds.Array to) =
     cond_both (same_type (type_of s) types.Empty) Zero NoRule (λ r. MakesValue r (One s) (kinds.Array to) made → value_by r (One s) (kinds.Array to) ≡ Ok made)
     (λ _ h. ap Ok (sym h)) (λ _ none. absurd none)
@@ -217,7 +213,7 @@ not_nearest false r q e f h = false≢true (sym f ∙ ap is_nearest h)
 pub value_refused : (v : Variant) (to : ValueType) (f : CoerceFault) → RefusesCoercion v to f → is_memory f ≡ false → coerced v to ≡ Err f
 unfolding coerced
 value_refused (One s) (kinds.One to) Overflow h m =
-    of_one s to ∙ ap one (scalar_refused s to Overflow (h.0, λ x k. h.1 (One x) (lifted (rule_for (type_of s) to) s to x k)))
+    of_one s to ∙ ap one_result (scalar_refused s to Overflow (h.0, λ x k. h.1 (One x) (lifted (rule_for (type_of s) to) s to x k)))
 value_refused (One s) (kinds.Array to) Overflow h m = absurd (not_nearest (same_type (type_of s) types.Empty) Zero NoRule refl refl h.0)
 value_refused (Array x) (kinds.One to) Overflow h m = absurd (not_nearest (same_type to types.Variant) Unchanged NoRule refl refl h.0)
 value_refused (Array x) (kinds.Array to) Overflow h m = absurd (not_nearest (same_type x.elem to) Unchanged NoRule refl refl h.0)

@@ -7,8 +7,9 @@ use Rattle.std.proofs.lemmas.Bool.{le-ltb}
 use Rattle.std.proofs.lemmas.Int.{ints}
 use Rattle.std.proofs.Math.IntN.{pos-*ℤ-pos, negsuc-*ℤ-pos}
 use Rattle.std.proofs.Math.Nat.{one-le-pow}
-use Rattle.oa_coerce.specs.Numbers.{signed, IsNearest, IsNearestWhole}
-use Rattle.oa_coerce.specs.Answers.{half_even, nearest_count}
+use Rattle.oa_coerce.specs.promise.Numbers.{signed}
+use Rattle.oa_coerce.specs.Numbers.{IsNearest, IsNearestWhole}
+use Rattle.oa_coerce.specs.promise.Answers.{half_even, nearest_count}
 use Rattle.oa_coerce.specs.declared.number.Number.{Number}
 use Rattle.oa_coerce.proofs.Whole.{one_whole, half_even_is_nearest}
 

@@ -2,20 +2,22 @@
 use Rattle.std.specs.Prelude.{◌≡◌, true, false}
 use Rattle.std.proofs.Common.{refl, sym, ap, subst, ◌∙◌}
 use Rattle.std.proofs.lemmas.Bool.{cond_both, or_right, false≢true}
-use Rattle.oa_model.specs.Integers.{is_integer_type}
+use Rattle.oa_model.specs.promise.Integers.{is_integer_type}
 use Rattle.oa_model.specs.declared.var_type.VarType.{VarType}
 use Rattle.oa_model.specs.declared.var_type.VarType.TheVariants as types
 use Rattle.oa_model.specs.declared.var_type.ValueType.{ValueType}
 use Rattle.oa_model.specs.declared.var_type.ValueType.TheVariants as kinds
-use Rattle.oa_variant.specs.Keys.{key_number}
-use Rattle.oa_variant.specs.Scalars.{type_of, same_type, fits_type, zero_of}
-use Rattle.oa_variant.specs.Variants.{fits_declared}
+use Rattle.oa_variant.specs.promise.Keys.{key_number}
+use Rattle.oa_variant.specs.promise.Scalars.{type_of, same_type, fits_type, zero_of}
+use Rattle.oa_variant.specs.promise.Variants.{fits_declared}
 use Rattle.oa_variant.specs.declared.scalar.Scalar.{Scalar}
 use Rattle.oa_variant.specs.declared.scalar.Scalar.TheVariants as scalars
 use Rattle.oa_variant.specs.declared.variant.Variant.{Variant}
 use Rattle.oa_variant.specs.declared.variant.Variant.TheVariants.{One, Array}
-use Rattle.oa_coerce.specs.Numbers.{decimal_places, number_in, IsNearest}
-use Rattle.oa_coerce.specs.Coercions.{rule_for, Makes, MakesValue, CoercesScalar, Coerces}
+use Rattle.oa_coerce.specs.promise.Numbers.{decimal_places, number_in}
+use Rattle.oa_coerce.specs.Numbers.{IsNearest}
+use Rattle.oa_coerce.specs.promise.Coercions.{rule_for}
+use Rattle.oa_coerce.specs.Coercions.{Makes, MakesValue, CoercesScalar, Coerces}
 use Rattle.oa_coerce.specs.declared.rule.Rule.TheVariants.{Unchanged, Zero, NoRule}
 use Rattle.oa_coerce.proofs.Nearest.{one_nearest, nearest_itself}
 use Rattle.oa_coerce.proofs.Rules.{are_same, tests_same, by_rule, same_scalar}
@@ -51,23 +53,7 @@ one_answer (Array x) a b (kinds.Array to) =
 
 zero_fits_type : (t : VarType) → fits_type (zero_of t) t ≡ true
 zero_fits_type types.Empty = refl
-zero_fits_type types.Null = refl
-zero_fits_type types.I1 = refl
-zero_fits_type types.I2 = refl
-zero_fits_type types.I4 = refl
-zero_fits_type types.I8 = refl
-zero_fits_type types.Int = refl
-zero_fits_type types.Ui1 = refl
-zero_fits_type types.Ui2 = refl
-zero_fits_type types.Ui4 = refl
-zero_fits_type types.Ui8 = refl
-zero_fits_type types.Uint = refl
-zero_fits_type types.Cy = refl
-zero_fits_type types.Bool = refl
-zero_fits_type types.Error = refl
-zero_fits_type types.Bstr = refl
-zero_fits_type types.Decimal = refl
-zero_fits_type types.Variant = refl
+zero_fits_type t = refl
 
 of_its_type : (m : Scalar) (to : VarType) → type_of m ≡ to → fits_type m to ≡ true
 of_its_type m to e = or_right (same_type to types.Variant) (same_type (type_of m) to) (tests_same (type_of m) to e)
@@ -97,45 +83,14 @@ answer_fits (Array x) made (kinds.Array to) =
 
 -- integers stay
 
+no_places : (t : VarType) → is_integer_type t ≡ true → decimal_places t ≡ 0
+no_places types.Empty u = refl
+no_places t u = cc
+
 -- a value of an integer type is a count of ones
 counts_ones : (s : Scalar) → is_integer_type (type_of s) ≡ true → number_in s ≡ record { count = key_number s; scale = 0 }
-counts_ones (scalars.I1 z) u = refl
-counts_ones (scalars.I2 z) u = refl
-counts_ones (scalars.I4 z) u = refl
-counts_ones (scalars.I8 z) u = refl
-counts_ones (scalars.Int z) u = refl
-counts_ones (scalars.Ui1 n) u = refl
-counts_ones (scalars.Ui2 n) u = refl
-counts_ones (scalars.Ui4 n) u = refl
-counts_ones (scalars.Ui8 n) u = refl
-counts_ones (scalars.Uint n) u = refl
-counts_ones (scalars.Cy z) u = absurd (false≢true u)
 counts_ones scalars.Empty u = absurd (false≢true u)
-counts_ones scalars.Null u = absurd (false≢true u)
-counts_ones (scalars.Bool b) u = absurd (false≢true u)
-counts_ones (scalars.Error n) u = absurd (false≢true u)
-counts_ones (scalars.Bstr t) u = absurd (false≢true u)
-counts_ones (scalars.Decimal d) u = absurd (false≢true u)
-
-no_places : (t : VarType) → is_integer_type t ≡ true → decimal_places t ≡ 0
-no_places types.Cy u = absurd (false≢true u)
-no_places types.Empty u = refl
-no_places types.Null u = refl
-no_places types.I1 u = refl
-no_places types.I2 u = refl
-no_places types.I4 u = refl
-no_places types.I8 u = refl
-no_places types.Int u = refl
-no_places types.Ui1 u = refl
-no_places types.Ui2 u = refl
-no_places types.Ui4 u = refl
-no_places types.Ui8 u = refl
-no_places types.Uint u = refl
-no_places types.Bool u = refl
-no_places types.Error u = refl
-no_places types.Bstr u = refl
-no_places types.Decimal u = refl
-no_places types.Variant u = refl
+counts_ones s u = cc
 
 other_type : (t u : VarType) → is_integer_type t ≡ true → is_integer_type u ≡ false → t ≡ u → ⊥
 other_type t u integer not_u e = false≢true (sym not_u ∙ (ap is_integer_type (sym e) ∙ integer))

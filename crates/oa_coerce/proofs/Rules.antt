@@ -3,18 +3,18 @@ use Rattle.std.specs.Prelude.{◌≡◌, ◌&&◌, ◌||◌, true}
 use Rattle.std.proofs.Common.{refl, sym, ap, ◌∙◌}
 use Rattle.std.proofs.lemmas.Bool.{cond_both, and_parts, or_left, false≢true}
 use denote.Enum.Bare.{same_true, true_same}
-use Rattle.oa_model.specs.Integers.{is_integer_type, is_signed_integer}
-use Rattle.oa_model.specs.Types.{is_signed_type}
+use Rattle.oa_model.specs.promise.Integers.{is_integer_type, is_signed_integer}
+use Rattle.oa_model.specs.promise.Types.{is_signed_type}
 use Rattle.oa_model.specs.contracts.var_type.VarType.{the_type as var_type}
 use Rattle.oa_model.specs.declared.var_type.VarType.{VarType}
 use Rattle.oa_model.specs.declared.var_type.VarType.TheVariants as types
-use Rattle.oa_variant.specs.Keys.{key_number}
-use Rattle.oa_variant.specs.Scalars.{type_of, same_type}
+use Rattle.oa_variant.specs.promise.Keys.{key_number}
+use Rattle.oa_variant.specs.promise.Scalars.{type_of, same_type}
 use Rattle.oa_variant.specs.declared.scalar.Scalar.{Scalar}
 use Rattle.oa_variant.specs.declared.scalar.Scalar.TheVariants as scalars
-use Rattle.oa_coerce.specs.Numbers.{counts_units, is_number_type}
-use Rattle.oa_coerce.specs.Coercions.{rule_for}
-use Rattle.oa_coerce.specs.Answers.{of_count}
+use Rattle.oa_coerce.specs.promise.Numbers.{counts_units, is_number_type}
+use Rattle.oa_coerce.specs.promise.Coercions.{rule_for}
+use Rattle.oa_coerce.specs.promise.Answers.{of_count}
 use Rattle.oa_coerce.specs.declared.rule.Rule.{Rule}
 use Rattle.oa_coerce.specs.declared.rule.Rule.TheVariants.{Unchanged, Zero, Nearest, Exact, ToTruth, NoRule}
 
@@ -39,7 +39,7 @@ by_rule P from to unchanged zero nearest exact truth none =
     cond_both (is_number_type from && counts_units to) _ _ P (λ both. nearest (and_parts (is_number_type from) (counts_units to) both).1) (λ _.
     cond_both (same_type from types.Bool && is_signed_integer to) _ _ P (λ both.
     let signed = (and_parts (same_type from types.Bool) (is_signed_integer to) both).1 in
-    nearest (or_left (is_integer_type to) (same_type to types.Cy) (and_parts (is_integer_type to) (is_signed_type to) signed).0)) (λ _.
+    nearest (or_left (is_integer_type to) _ (and_parts (is_integer_type to) (is_signed_type to) signed).0)) (λ _.
     cond_both (counts_units from && same_type to types.Decimal) _ _ P (λ both.
     let h = and_parts (counts_units from) (same_type to types.Decimal) both in exact h.0 (are_same to types.Decimal h.1)) (λ _.
     cond_both (is_signed_integer from && same_type to types.Bool) _ _ P (λ both.
@@ -47,23 +47,12 @@ by_rule P from to unchanged zero nearest exact truth none =
 
 -- a scalar of an integer type, or of CY, is its type and its number
 pub made_back : (s : Scalar) → counts_units (type_of s) ≡ true → of_count (type_of s) (key_number s) ≡ s
-made_back (scalars.I1 z) u = refl
-made_back (scalars.I2 z) u = refl
-made_back (scalars.I4 z) u = refl
-made_back (scalars.I8 z) u = refl
-made_back (scalars.Int z) u = refl
-made_back (scalars.Ui1 n) u = refl
-made_back (scalars.Ui2 n) u = refl
-made_back (scalars.Ui4 n) u = refl
-made_back (scalars.Ui8 n) u = refl
-made_back (scalars.Uint n) u = refl
-made_back (scalars.Cy z) u = refl
-made_back scalars.Empty u = absurd (false≢true u)
 made_back scalars.Null u = absurd (false≢true u)
 made_back (scalars.Bool b) u = absurd (false≢true u)
 made_back (scalars.Error n) u = absurd (false≢true u)
 made_back (scalars.Bstr t) u = absurd (false≢true u)
 made_back (scalars.Decimal d) u = absurd (false≢true u)
+made_back s u = refl
 
 pub same_scalar : (a b : Scalar) (to : VarType) → counts_units to ≡ true → type_of a ≡ to → type_of b ≡ to → key_number a ≡ key_number b
     → a ≡ b

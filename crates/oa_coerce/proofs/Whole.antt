@@ -6,7 +6,7 @@ use Rattle.std.proofs.lemmas.Bool.{cases_order, cases_eq, cond_both, or_cases, o
 use Rattle.std.proofs.lemmas.Bool.{eqb-true, eqb-false}
 use Rattle.std.proofs.lemmas.Nat.{div-add-mod', mod_below}
 use Rattle.oa_coerce.specs.Numbers.{IsNearestWhole}
-use Rattle.oa_coerce.specs.Answers.{half_even}
+use Rattle.oa_coerce.specs.promise.Answers.{half_even}
 
 -- of two nearest ones neither is the smaller: the next number but one is too far, and next to one another both would be half a unit off
 none_above : (w u a more : ℕ) → 0 < u → IsNearestWhole w u a → IsNearestWhole w u (a + 1 + more) → ⊥
@@ -34,7 +34,8 @@ up : (w u quotient rest : ℕ) → quotient * u + rest ≡ w → rest < u → u 
 up w u quotient rest made small large odd = let next : (quotient + 1) * u ≡ quotient * u + u = omega arith in
     record {
       near = subst (λ x. 2 * abs_diff x w ≤ u) (sym next) (omega (arith, made, small, large));
-      even = λ half. let h : 2 * abs_diff (quotient * u + u) w ≡ u = subst (λ x. 2 * abs_diff x w ≡ u) next half in omega (arith, odd (omega (arith, made, small, h)));
+      even = λ half. let h : 2 * abs_diff (quotient * u + u) w ≡ u = subst (λ x. 2 * abs_diff x w ≡ u) next half in
+          omega (arith, odd (omega (arith, made, small, h)));
     }
 
 down : (w u quotient rest : ℕ) → quotient * u + rest ≡ w → 2 * rest ≤ u → (2 * rest ≡ u → quotient % 2 ≡ 0) → IsNearestWhole w u quotient

@@ -1,34 +1,22 @@
--- Coercion of values to types (this project's selection from the conversions of VariantChangeType). Texts are not
--- parsed as numbers, and numbers are not printed as texts.
-use Rattle.std.specs.Prelude.{◌≡◌, ◌&&◌, ◌||◌, not, if◌then◌else◌, pos}
+-- Definitions for contracts and proofs, beside promise/Coercions.
+use Rattle.std.specs.Prelude.{◌≡◌, not, pos}
 use Rattle.std.specs.Ordering.{int_eq}
-use Rattle.oa_model.specs.Integers.{is_signed_integer}
 use Rattle.oa_model.specs.declared.var_type.VarType.{VarType}
-use Rattle.oa_model.specs.declared.var_type.VarType.TheVariants as types
 use Rattle.oa_model.specs.declared.var_type.ValueType.{ValueType}
 use Rattle.oa_model.specs.declared.var_type.ValueType.TheVariants as kinds
-use Rattle.oa_variant.specs.Keys.{key_number}
-use Rattle.oa_variant.specs.Scalars.{type_of, same_type, zero_of, IsScalar}
-use Rattle.oa_variant.specs.Variants.{value_type_of, zero_value}
+use Rattle.oa_variant.specs.promise.Keys.{key_number}
+use Rattle.oa_variant.specs.promise.Scalars.{type_of, zero_of}
+use Rattle.oa_variant.specs.Scalars.{IsScalar}
+use Rattle.oa_variant.specs.promise.Variants.{value_type_of, zero_value}
 use Rattle.oa_variant.specs.declared.scalar.Scalar.{Scalar}
 use Rattle.oa_variant.specs.declared.scalar.Scalar.TheVariants as scalars
 use Rattle.oa_variant.specs.declared.variant.Variant.{Variant}
 use Rattle.oa_variant.specs.declared.variant.Variant.TheVariants.{One}
-use Rattle.oa_coerce.specs.Numbers.{counts_units, is_number_type, decimal_places, number_in, as_decimal, IsNearest}
+use Rattle.oa_coerce.specs.promise.Numbers.{decimal_places, number_in, as_decimal}
+use Rattle.oa_coerce.specs.Numbers.{IsNearest}
 use Rattle.oa_coerce.specs.declared.rule.Rule.{Rule}
 use Rattle.oa_coerce.specs.declared.rule.Rule.TheVariants.{Unchanged, Zero, Nearest, Exact, ToTruth, NoRule}
-
--- The rule for the coercion of a scalar from one type to another: the first that applies. A whole number in the range
--- of a type is nearest to itself, so that `Nearest` also covers the integers.
-abbrev pub rule_for : VarType → VarType → Rule
-rule_for from to =
-    if same_type to types.Variant || same_type from to then Unchanged
-    else if same_type from types.Empty then Zero
-    else if is_number_type from && counts_units to then Nearest
-    else if same_type from types.Bool && is_signed_integer to then Nearest
-    else if counts_units from && same_type to types.Decimal then Exact
-    else if is_signed_integer from && same_type to types.Bool then ToTruth
-    else NoRule
+use Rattle.oa_coerce.specs.promise.Coercions.{rule_for, rule_of}
 
 -- The rule makes the scalar `made` of the type from `s`. With `Nearest`, the nearest number must be that of a scalar of
 -- the type.
@@ -44,13 +32,6 @@ Makes NoRule s to made = ⊥
 -- The coercion of a scalar to a type has the result `made`.
 abbrev pub CoercesScalar : Scalar → VarType → Scalar → Type 0
 CoercesScalar s to made = Makes (rule_for (type_of s) to) s to made
-
--- The rule for values: an array is unchanged or refused, and EMPTY is the only scalar that becomes an array.
-abbrev pub rule_of : ValueType → ValueType → Rule
-rule_of (kinds.One from) (kinds.One to) = rule_for from to
-rule_of (kinds.One from) (kinds.Array to) = if same_type from types.Empty then Zero else NoRule
-rule_of (kinds.Array from) (kinds.One to) = if same_type to types.Variant then Unchanged else NoRule
-rule_of (kinds.Array from) (kinds.Array to) = if same_type from to then Unchanged else NoRule
 
 -- The rule makes the value `made` of the declared type from `v`.
 abbrev pub MakesValue : Rule → Variant → ValueType → Variant → Type 0

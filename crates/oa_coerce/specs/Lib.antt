@@ -2,3 +2,4 @@ pub mod Answers
 pub mod Coercions
 pub mod Numbers
 pub mod Refusals
+pub mod promise

@@ -1,23 +1,17 @@
--- When a value cannot be coerced to a type, and the codes of these refusals (MS-ERREF section 2.1).
+-- Definitions for contracts and proofs, beside promise/Refusals.
 use Rattle.std.specs.Prelude.{◌≡◌}
-use Rattle.oa_model.specs.Codes.{disp_e_overflow, disp_e_typemismatch, e_outofmemory}
-use Rattle.oa_model.specs.declared.hresult.HResult.{HResult}
 use Rattle.oa_model.specs.declared.var_type.VarType.{VarType}
 use Rattle.oa_model.specs.declared.var_type.ValueType.{ValueType}
-use Rattle.oa_model.specs.declared.var_type.ValueType.TheVariants as kinds
-use Rattle.oa_variant.specs.Scalars.{type_of}
-use Rattle.oa_variant.specs.Variants.{value_type_of}
+use Rattle.oa_variant.specs.promise.Scalars.{type_of}
+use Rattle.oa_variant.specs.promise.Variants.{value_type_of}
 use Rattle.oa_variant.specs.declared.scalar.Scalar.{Scalar}
 use Rattle.oa_variant.specs.declared.variant.Variant.{Variant}
-use Rattle.oa_coerce.specs.Coercions.{rule_for, rule_of, CoercesScalar, Coerces}
+use Rattle.oa_coerce.specs.promise.Coercions.{rule_for, rule_of}
+use Rattle.oa_coerce.specs.Coercions.{CoercesScalar, Coerces}
 use Rattle.oa_coerce.specs.declared.fault.CoerceFault.{CoerceFault}
 use Rattle.oa_coerce.specs.declared.fault.CoerceFault.TheVariants.{Overflow, TypeMismatch, Memory}
 use Rattle.oa_coerce.specs.declared.rule.Rule.TheVariants.{Zero, Nearest, NoRule}
-
-abbrev pub coercion_code : CoerceFault → HResult
-coercion_code Overflow = disp_e_overflow
-coercion_code TypeMismatch = disp_e_typemismatch
-coercion_code Memory = e_outofmemory
+use Rattle.oa_coerce.specs.promise.Refusals.{IsArrayType}
 
 -- The refusal of the coercion of a scalar is right: the rule is `Nearest` and no scalar of the type has the nearest
 -- number, or there is no rule. Scalars need no memory.
@@ -25,10 +19,6 @@ abbrev pub RefusesScalar : Scalar → VarType → CoerceFault → Type 0
 RefusesScalar s to Overflow = (rule_for (type_of s) to ≡ Nearest) × ((made : Scalar) → CoercesScalar s to made → ⊥)
 RefusesScalar s to TypeMismatch = rule_for (type_of s) to ≡ NoRule
 RefusesScalar s to Memory = ⊥
-
-abbrev pub IsArrayType : ValueType → Type 0
-IsArrayType (kinds.One t) = ⊥
-IsArrayType (kinds.Array t) = Unit {0}
 
 -- As `RefusesScalar`, for a value. The zero value of an array type needs memory.
 abbrev pub RefusesCoercion : Variant → ValueType → CoerceFault → Type 0

@@ -1,6 +1,6 @@
 //! Why a value is not coerced.
 ghost use Rattle.std.specs.Prelude.{◌≡◌};
-ghost use Rattle.oa_coerce.specs.Refusals.{coercion_code};
+ghost use Rattle.oa_coerce.specs.promise.Refusals.{coercion_code};
 
 use oa_model::HResult;
 use thiserror::Error;
@@ -20,7 +20,8 @@ pub enum CoerceFault {
 }
 
 impl CoerceFault {
-    /// Returns the code of the reply (MS-ERREF section 2.1): DISP_E_OVERFLOW, DISP_E_TYPEMISMATCH or E_OUTOFMEMORY.
+    /// Returns the code of the reply (MS-ERREF section 2.1): DISP_E_OVERFLOW, DISP_E_TYPEMISMATCH
+    /// or E_OUTOFMEMORY.
     pub fn code(self) -> HResult
         ensures { result ≡ coercion_code self }
     {

@@ -1,19 +1,22 @@
 //! Theorems about the definitions, each the contract of a function with an empty body.
 ghost use Rattle.std.specs.Prelude.{◌≡◌, ◌↔◌, true, false, ℤ, ℕ, Ok, Err};
-ghost use Rattle.oa_model.specs.Integers.{is_integer_type};
+ghost use Rattle.oa_model.specs.promise.Integers.{is_integer_type};
 ghost use Rattle.oa_model.specs.declared.var_type.VarType.{VarType as AType};
 ghost use Rattle.oa_model.specs.declared.var_type.VarType.TheVariants as types;
 ghost use Rattle.oa_model.specs.declared.var_type.ValueType.{ValueType as AValueType};
 ghost use Rattle.oa_model.specs.declared.var_type.ValueType.TheVariants as kinds;
-ghost use Rattle.oa_variant.specs.Keys.{key_number};
-ghost use Rattle.oa_variant.specs.Scalars.{type_of, fits_type, IsScalar};
-ghost use Rattle.oa_variant.specs.Variants.{value_type_of, fits_declared};
+ghost use Rattle.oa_variant.specs.promise.Keys.{key_number};
+ghost use Rattle.oa_variant.specs.promise.Scalars.{type_of, fits_type};
+ghost use Rattle.oa_variant.specs.Scalars.{IsScalar};
+ghost use Rattle.oa_variant.specs.promise.Variants.{value_type_of, fits_declared};
 ghost use Rattle.oa_variant.specs.declared.scalar.Scalar.{Scalar as AScalar};
 ghost use Rattle.oa_variant.specs.declared.variant.Variant.{Variant as AVariant};
-ghost use Rattle.oa_coerce.specs.Numbers.{counts_units, IsNearest};
+ghost use Rattle.oa_coerce.specs.promise.Numbers.{counts_units};
+ghost use Rattle.oa_coerce.specs.Numbers.{IsNearest};
 ghost use Rattle.oa_coerce.specs.Coercions.{CoercesScalar, Coerces};
 ghost use Rattle.oa_coerce.specs.Refusals.{RefusesScalar, RefusesCoercion};
-ghost use Rattle.oa_coerce.specs.Answers.{coerced_scalar, coerced, is_memory};
+ghost use Rattle.oa_coerce.specs.promise.Answers.{coerced_scalar, coerced};
+ghost use Rattle.oa_coerce.specs.Answers.{is_memory};
 ghost use Rattle.oa_coerce.specs.declared.fault.CoerceFault.{CoerceFault as AFault};
 ghost use Rattle.oa_coerce.specs.declared.number.Number.{Number as ANumber};
 
@@ -57,7 +60,8 @@ pub fn scalar_answer_is_coercion()
     ensures refused { (s : AScalar) (to : AType) (f : AFault) → RefusesScalar s to f → coerced_scalar s to ≡ Err f }
 {}
 
-/// The function `coerced` computes the result of the coercion of a value, or its refusal except `Memory`.
+/// The function `coerced` computes the result of the coercion of a value, or its refusal except
+/// `Memory`.
 pub fn answer_is_coercion()
     ensures made { (v made : AVariant) (to : AValueType) → Coerces v to made ↔ (coerced v to ≡ Ok made) }
     ensures refused { (v : AVariant) (to : AValueType) (f : AFault) → RefusesCoercion v to f → is_memory f ≡ false → coerced v to ≡ Err f }

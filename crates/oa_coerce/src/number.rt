@@ -1,9 +1,11 @@
 //! Numbers, and their rounding to units.
 ghost use Rattle.std.specs.Prelude.{◌≡◌, ◌≤◌, ◌<◌, ◌^◌, unsigned_abs, IfSome, IsNone, IsTrue};
-ghost use Rattle.oa_variant.specs.Keys.{key_number};
-ghost use Rattle.oa_variant.specs.Scalars.{type_of, IsScalar};
+ghost use Rattle.oa_variant.specs.promise.Keys.{key_number};
+ghost use Rattle.oa_variant.specs.promise.Scalars.{type_of};
+ghost use Rattle.oa_variant.specs.Scalars.{IsScalar};
 ghost use Rattle.oa_variant.specs.declared.scalar.Scalar.{Scalar as AScalar};
-ghost use Rattle.oa_coerce.specs.Numbers.{number_in, counts_units, IsNearest, IsNearestWhole};
+ghost use Rattle.oa_coerce.specs.promise.Numbers.{number_in, counts_units};
+ghost use Rattle.oa_coerce.specs.Numbers.{IsNearest, IsNearestWhole};
 
 use oa_model::VarType;
 use oa_variant::Scalar;
@@ -11,7 +13,9 @@ use oa_variant::Scalar;
 /// The number count / 10^scale.
 #[derive(Clone, Copy)]
 pub(crate) struct Number {
+    /// The count of units, with its sign.
     pub(crate) count: i128,
+    /// The number of decimal places of the unit, from 0 to 28.
     pub(crate) scale: u8,
 }
 
@@ -60,7 +64,8 @@ fn nearest_whole(whole: u128, unit: u128) -> u128
     }
 }
 
-/// Returns the nearest count of units of 1 / 10^places to a number, and the even one of two that are equally near.
+/// Returns the nearest count of units of 1 / 10^`places` to a number, and the even one of two that
+/// are equally near.
 pub(crate) fn nearest(number: Number, places: u8) -> i128
     requires scale { number.scale ≤ 28 }
     requires count { unsigned_abs number.count < 2 ^ 96 }
@@ -73,7 +78,8 @@ pub(crate) fn nearest(number: Number, places: u8) -> i128
     if number.count < 0 { -count } else { count }
 }
 
-/// Returns the scalar of an integer type or of CY with this count of units. None if the type has no such scalar.
+/// Returns the scalar of an integer type or of CY with this count of units. None if the type has no
+/// such scalar.
 pub(crate) fn with_count(to: VarType, count: i128) -> Option<Scalar>
     requires { IsTrue (counts_units to) }
     ensures some { IfSome result (λ made. (type_of made ≡ to) × (key_number made ≡ count)) }

@@ -1,7 +1,7 @@
 //! The coercion rule for two types.
 ghost use Rattle.std.specs.Prelude.{◌≡◌, ◌≤◌};
-ghost use Rattle.oa_coerce.specs.Numbers.{counts_units, decimal_places};
-ghost use Rattle.oa_coerce.specs.Coercions.{rule_for};
+ghost use Rattle.oa_coerce.specs.promise.Numbers.{counts_units, decimal_places};
+ghost use Rattle.oa_coerce.specs.promise.Coercions.{rule_for};
 
 use oa_model::VarType;
 
@@ -22,7 +22,8 @@ pub(crate) enum Rule {
     NoRule,
 }
 
-/// Returns whether the values of a type are whole counts of one unit: those of the integer types and of CY.
+/// Returns whether the values of a type are whole counts of one unit: those of the integer types
+/// and of CY.
 pub(crate) fn counts_units(one: VarType) -> bool
     ensures { result ≡ counts_units one }
 {

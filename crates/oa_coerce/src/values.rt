@@ -1,9 +1,11 @@
 //! Coercion of scalars and of values.
 ghost use Rattle.std.specs.Prelude.{◌≡◌, true, IfOk, IfErr, IsTrue};
-ghost use Rattle.oa_variant.specs.Variants.{HasZero, fits_declared};
+ghost use Rattle.oa_variant.specs.Variants.{HasZero};
+ghost use Rattle.oa_variant.specs.promise.Variants.{fits_declared};
 ghost use Rattle.oa_coerce.specs.Coercions.{CoercesScalar, Coerces};
 ghost use Rattle.oa_coerce.specs.Refusals.{RefusesScalar, RefusesCoercion};
-ghost use Rattle.oa_coerce.specs.Answers.{coerced_scalar, coerced, IsScalarAnswer, IsCoercion};
+ghost use Rattle.oa_coerce.specs.promise.Answers.{coerced_scalar, coerced};
+ghost use Rattle.oa_coerce.specs.Answers.{IsScalarAnswer, IsCoercion};
 
 use crate::CoerceFault;
 use crate::number::{nearest, number_in, with_count};
@@ -13,10 +15,12 @@ use oa_model::{ValueType, VarType};
 use oa_variant::{Decimal, Scalar, Variant};
 use std::alloc::Global;
 
-/// Coerces a scalar to a type. Every scalar is unchanged as VARIANT. Allocates nothing.
+/// Coerces a scalar to a type, and returns the result. Every scalar is unchanged as VARIANT.
+/// Allocates nothing.
 ///
-/// Err contains the scalar and the reason: `TypeMismatch` if and only if there is no rule for the two types; `Overflow` if and only if the
-/// number, rounded to the type's unit, is outside the range of the type.
+/// Err contains the scalar and the reason: `TypeMismatch` if and only if there is no rule for the
+/// two types; `Overflow` if and only if the number, rounded to the type's unit, is outside the
+/// range of the type.
 pub fn coerce_scalar(value: Scalar, to: VarType) -> Result<Scalar, (Scalar, CoerceFault)>
     ensures made { IfOk result (λ made. CoercesScalar value to made) }
     ensures refused { IfErr result (λ e. (e.0 ≡ value) × RefusesScalar value to e.1) }
@@ -25,7 +29,8 @@ pub fn coerce_scalar(value: Scalar, to: VarType) -> Result<Scalar, (Scalar, Coer
     scalar_by_rule(value, to)
 }
 
-/// As `coerce_scalar`, with a contract over the relation alone.
+/// Coerces a scalar as `coerce_scalar` does, with the same errors. Its contract is over the
+/// relation alone.
 fn scalar_by_rule(value: Scalar, to: VarType) -> Result<Scalar, (Scalar, CoerceFault)>
     ensures made { IfOk result (λ made. CoercesScalar value to made) }
     ensures refused { IfErr result (λ e. (e.0 ≡ value) × RefusesScalar value to e.1) }
@@ -48,10 +53,12 @@ fn scalar_by_rule(value: Scalar, to: VarType) -> Result<Scalar, (Scalar, CoerceF
     }
 }
 
-/// Coerces a value to a declared type, which must be a scalar type or that of an array with an sfType. Every value is unchanged as VARIANT.
+/// Coerces a value to a declared type, and returns the result. The type must be a scalar type or
+/// that of an array with an sfType. Every value is unchanged as VARIANT.
 ///
-/// Err contains the value and the reason: `TypeMismatch` if and only if there is no rule for the two types; `Overflow` if and only if the
-/// number, rounded to the type's unit, is outside the range of the type; `Memory` if EMPTY is to become an array and an allocation fails.
+/// Err contains the value and the reason: `TypeMismatch` if and only if there is no rule for the
+/// two types; `Overflow` if and only if the number, rounded to the type's unit, is outside the
+/// range of the type; `Memory` if EMPTY is to become an array and an allocation fails.
 #[inline(always)]
 pub fn coerce(
     alloc: Global,
@@ -66,7 +73,7 @@ pub fn coerce(
     value_by_rule(alloc, value, declared)
 }
 
-/// As `coerce`, with a contract over the relation alone.
+/// Coerces a value as `coerce` does, with the same errors. Its contract is over the relation alone.
 #[inline(always)]
 fn value_by_rule(
     alloc: Global,
@@ -83,8 +90,8 @@ fn value_by_rule(
     other_value(alloc, value, declared)
 }
 
-/// Returns whether a value is a long, as most are, and the declared type is long. The caller then returns the value without a call, so that
-/// it is not moved.
+/// Returns whether a value is a long, as most are, and the declared type is long. The caller then
+/// returns the value without a call, so that it is not moved.
 #[inline(always)]
 fn is_long(value: &Variant, declared: ValueType) -> bool
     ensures { IsTrue result → fits_declared value.now declared ≡ true }
@@ -95,7 +102,7 @@ fn is_long(value: &Variant, declared: ValueType) -> bool
     }
 }
 
-/// As `value_by_rule`, for any value.
+/// Coerces any value as `value_by_rule` does, with the same errors.
 fn other_value(
     alloc: Global,
     value: Variant,

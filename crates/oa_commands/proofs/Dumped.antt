@@ -2,17 +2,18 @@
 use Rattle.std.proofs.Common.{◌≡◌, ◌⊎◌, inr, ℕ, Bool, false, List, [], ◌∷◌, ◌++◌, Result, Ok, Err, OnOk, IfErr, append_assoc, refl, sym, ap, ◌∙◌}
 use Rattle.std.proofs.lemmas.List.{append-nil}
 use Rattle.std.specs.List.{flat_map}
-use Rattle.oa_stream.specs.Sink.{Output, Writes}
+use Rattle.oa_stream.specs.promise.Sink.{Output, Writes}
 use Rattle.oa_stream.proofs.Stretches.{breaks_after, breaks_before, writes_nothing, writes_then}
 use Rattle.oa_disk.specs.declared.disk.Disk.{Ghosts}
-use Rattle.oa_table.specs.Tables.{TableValue}
+use Rattle.oa_table.specs.promise.Tables.{TableValue}
 use Rattle.oa_commands.specs.Dumps.{BreaksOff, PutsFront, dump}
 use Rattle.oa_commands.specs.Stores.{WasRead}
 use Rattle.oa_commands.specs.declared.fault.Fault.{Fault}
 use Rattle.oa_commands.specs.declared.fault.Fault.TheVariants as faults
 
 -- the last one, where it was written
-pub then_if : {T : Type 0} (result : Result T Fault) (a b c : Output) (xs ys : List ℕ) → Writes a b xs → OnOk result (Writes b c ys) → OnOk result (Writes a c (xs ++ ys))
+pub then_if : {T : Type 0} (result : Result T Fault) (a b c : Output) (xs ys : List ℕ) → Writes a b xs → OnOk result (Writes b c ys)
+    → OnOk result (Writes a c (xs ++ ys))
 then_if (Ok x) a b c xs ys p q = writes_then a b c xs ys p q
 then_if (Err f) a b c xs ys p q = tt
 
@@ -22,7 +23,8 @@ three a b c d xs ys zs p q r = writes_then a b d xs (ys ++ zs) p (writes_then b 
 -- the lines of one more item, in two parts, before those of the others
 pub goes_on : {X : Type 0} (line : X → List ℕ) (items rest : List X) (x : X) (a b c end : Output) (xs ys : List ℕ)
     → items ≡ x ∷ rest → line x ≡ xs ++ ys → Writes a b xs → Writes b c ys → Writes c end (flat_map line rest) → Writes a end (flat_map line items)
-goes_on line items rest x a b c end xs ys is parts p q r = rw (is, parts, append_assoc xs ys (flat_map line rest)) (three a b c end xs ys (flat_map line rest) p q r)
+goes_on line items rest x a b c end xs ys is parts p q r = rw (is, parts, append_assoc xs ys (flat_map line rest))
+    (three a b c end xs ys (flat_map line rest) p q r)
 
 pub begins : {X : Type 0} (line : X → List ℕ) (items all : List X) (a b end : Output) (xs : List ℕ)
     → items ≡ all → Writes a b xs → Writes b end (flat_map line items) → Writes a end (xs ++ flat_map line all)
@@ -63,12 +65,14 @@ behind_put faults.Memory a b c xs ys p q = record {
 behind_put fault a b c xs ys p q = absurd q
 
 -- in the last of two stretches
-pub then_off : {T : Type 0} (result : Result T Fault) (a b c : Output) (xs ys : List ℕ) → Writes a b xs → IfErr result (BreaksOff b c ys) → IfErr result (BreaksOff a c (xs ++ ys))
+pub then_off : {T : Type 0} (result : Result T Fault) (a b c : Output) (xs ys : List ℕ) → Writes a b xs → IfErr result (BreaksOff b c ys)
+    → IfErr result (BreaksOff a c (xs ++ ys))
 then_off (Ok x) a b c xs ys p q = tt
 then_off (Err f) a b c xs ys p q = behind_put f a b c xs ys p q
 
 -- in the lines of one more item, its first part, its second, or in those of the others
-module _ {X : Type 0} (line : X → List ℕ) (items rest : List X) (x : X) (xs ys : List ℕ) (is : items ≡ x ∷ rest) (parts : line x ≡ xs ++ ys) (fault : Fault) where
+module _ {X : Type 0} (line : X → List ℕ) (items rest : List X) (x : X) (xs ys : List ℕ) (is : items ≡ x ∷ rest) (parts : line x ≡ xs ++ ys)
+    (fault : Fault) where
   pub first_off : (a end : Output) → BreaksOff a end xs fault → BreaksOff a end (flat_map line items) fault
   first_off a end q = rw (is, parts, append_assoc xs ys (flat_map line rest)) (before_more fault a end xs (ys ++ flat_map line rest) q)
 
@@ -76,7 +80,8 @@ module _ {X : Type 0} (line : X → List ℕ) (items rest : List X) (x : X) (xs 
   second_off a b end p q = rw (is, parts, append_assoc xs ys (flat_map line rest))
       (behind_put fault a b end xs (ys ++ flat_map line rest) p (before_more fault b end ys (flat_map line rest) q))
 
-  pub later_off : (a b c end : Output) → Writes a b xs → Writes b c ys → BreaksOff c end (flat_map line rest) fault → BreaksOff a end (flat_map line items) fault
+  pub later_off : (a b c end : Output) → Writes a b xs → Writes b c ys → BreaksOff c end (flat_map line rest) fault
+      → BreaksOff a end (flat_map line items) fault
   later_off a b c end p q r = rw (is, parts, append_assoc xs ys (flat_map line rest))
       (behind_put fault a b end xs (ys ++ flat_map line rest) p (behind_put fault b c end ys (flat_map line rest) q r))
 
@@ -86,7 +91,8 @@ pub begins_off : {X : Type 0} (line : X → List ℕ) (items all : List X) (a b 
 begins_off line items all a b end xs fault is p q = behind_put fault a b end xs (flat_map line all) p (rw (← is) q)
 
 -- in a dump of what a disk was read as
-pub dump_off : {D T : Type 0} (g : Ghosts D) (library : Bool) (text : List ℕ) (table : TableValue) (a b : Output) (result : Result T Fault) → WasRead g text table
+pub dump_off : {D T : Type 0} (g : Ghosts D) (library : Bool) (text : List ℕ) (table : TableValue) (a b : Output) (result : Result T Fault)
+    → WasRead g text table
     → IfErr result (BreaksOff a b (dump library text table))
     → IfErr result (λ fault. (b ≡ a) ⊎ ((l : List ℕ) × (t : TableValue) × WasRead g l t × BreaksOff a b (dump library l t) fault))
 dump_off g library text table a b (Ok x) read q = tt

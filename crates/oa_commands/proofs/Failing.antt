@@ -2,8 +2,8 @@
 use Rattle.std.proofs.Common.{◌≤◌, arith}
 use Rattle.oa_idl.specs.declared.stop.ParseError.{ParseError}
 use Rattle.oa_idl.specs.declared.stop.ParseError.TheVariants as parsing
-use Rattle.oa_checks.specs.declared.fault.CheckError.{CheckError}
-use Rattle.oa_checks.specs.declared.fault.CheckError.TheVariants as checking
+use Rattle.oa_sema.specs.declared.fault.CheckError.{CheckError}
+use Rattle.oa_sema.specs.declared.fault.CheckError.TheVariants as checking
 use Rattle.oa_commands.specs.declared.fault.Fault.{Fault}
 use Rattle.oa_commands.specs.declared.fault.Fault.TheVariants as faults
 use Rattle.oa_commands.specs.Statuses.{status_of, status_of_text, status_of_tree}

@@ -1,13 +1,13 @@
 -- A library's canonical text, written whole or as far as the writer took it.
 use Rattle.std.proofs.Common.{◌≡◌, ◌⊎◌, inr, ℕ, List, [], Result, Ok, Err, OnOk, IfErr, subst}
 use Rattle.std.proofs.lemmas.List.{append-nil}
-use Rattle.oa_canonical.specs.Canonical.{canonical}
-use Rattle.oa_checks.specs.IsLibrary.{IsLibrary}
+use Rattle.oa_printer.specs.promise.Canonical.{canonical}
+use Rattle.oa_sema.specs.promise.IsLibrary.{IsLibrary}
 use Rattle.oa_commands.specs.Texts.{IsPrinted}
 use Rattle.oa_commands.specs.declared.fault.Fault.{Fault}
 use Rattle.oa_commands.specs.declared.fault.Fault.TheVariants as faults
-use Rattle.oa_idl.specs.Trees.{TreeValue}
-use Rattle.oa_stream.specs.Sink.{Breaks, Output, Writes}
+use Rattle.oa_idl.specs.promise.Trees.{TreeValue}
+use Rattle.oa_stream.specs.promise.Sink.{Breaks, Output, Writes}
 use Rattle.oa_stream.proofs.Stretches.{breaks_after}
 
 -- what was put is not handed on

@@ -1,11 +1,11 @@
 -- The bytes of a library's file, and the faults with the name of a file as a line shows it. (This project's choice.)
 use Rattle.std.specs.Prelude.{◌≡◌, ◌≤◌, ℕ, List, length, ⊤, string_bytes}
-use Rattle.oa_model.specs.Limits.{max_library_bytes}
+use Rattle.oa_model.specs.promise.Limits.{max_library_bytes}
 use Rattle.oa_commands.specs.Shown.{shown_name}
 use Rattle.oa_commands.specs.declared.fault.Fault.{Fault}
 use Rattle.oa_commands.specs.declared.fault.Fault.TheVariants as faults
 
--- they are at most as many as a library's text may have
+-- they are not more than a library's text may have
 abbrev pub IsWithinLimit : List ℕ → Type 0
 IsWithinLimit bytes = length bytes ≤ max_library_bytes
 

@@ -3,14 +3,14 @@ use Rattle.std.specs.Prelude.{◌≡◌, ◌⊎◌, ℕ, Result, Ok, Err, ⊤}
 use Rattle.oa_idl.specs.declared.stop.Limit.TheVariants as limits
 use Rattle.oa_idl.specs.declared.stop.ParseError.{ParseError}
 use Rattle.oa_idl.specs.declared.stop.ParseError.TheVariants as parsing
-use Rattle.oa_checks.specs.declared.fault.CheckError.{CheckError}
-use Rattle.oa_checks.specs.declared.fault.CheckError.TheVariants as checking
+use Rattle.oa_sema.specs.declared.fault.CheckError.{CheckError}
+use Rattle.oa_sema.specs.declared.fault.CheckError.TheVariants as checking
 use Rattle.oa_disk.specs.declared.disk.DeviceFault.{DeviceFault}
 use Rattle.oa_disk.specs.declared.disk.DeviceFault.TheVariants as devices
 use Rattle.oa_frame.specs.declared.ends.End.{End}
 use Rattle.oa_frame.specs.declared.ends.End.TheVariants as sessions
-use Rattle.oa_share.specs.declared.session_end.SessionEnd.{SessionEnd}
-use Rattle.oa_share.specs.declared.session_end.SessionEnd.TheVariants as ends
+use Rattle.oa_mux.specs.declared.session_end.SessionEnd.{SessionEnd}
+use Rattle.oa_mux.specs.declared.session_end.SessionEnd.TheVariants as ends
 use Rattle.oa_store.specs.declared.fault.FormatFault.{FormatFault}
 use Rattle.oa_store.specs.declared.fault.FormatFault.TheVariants as formats
 use Rattle.oa_store.specs.declared.fault.OpenFault.{OpenFault}

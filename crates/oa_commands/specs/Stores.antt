@@ -1,17 +1,17 @@
 -- The disks that the commands on a store return or read. (This project's choice.)
 use Rattle.std.specs.Prelude.{ℕ, IsTrue, List, max, min}
-use Rattle.oa_canonical.specs.Canonical.{canonical}
-use Rattle.oa_checks.specs.IsLibrary.{IsLibrary}
+use Rattle.oa_printer.specs.promise.Canonical.{canonical}
+use Rattle.oa_sema.specs.promise.IsLibrary.{IsLibrary}
 use Rattle.oa_disk.specs.declared.disk.Disk.{Ghosts}
 use Rattle.oa_disk.specs.After.{BeginsHonest}
-use Rattle.oa_idl.specs.Trees.{TreeValue}
-use Rattle.oa_journal.specs.declared.shape.Shape.TheVariants.{Two}
-use Rattle.oa_journal.specs.Banks.{first_gate}
-use Rattle.oa_journal.specs.Shapes.{least_bank_bytes, most_bank_bytes}
-use Rattle.oa_store.specs.Faults.{IsBrought}
+use Rattle.oa_idl.specs.promise.Trees.{TreeValue}
+use Rattle.oa_journal.specs.declared.shape.BankFormat.TheVariants.{Two}
+use Rattle.oa_journal.specs.promise.Bank.{first_gate, least_bank_bytes, most_bank_bytes}
+use Rattle.oa_store.specs.promise.Faults.{IsMigrated}
 use Rattle.oa_store.specs.Openings.{FindsAny}
-use Rattle.oa_store.specs.Stores.{IsStoreAt}
-use Rattle.oa_table.specs.Tables.{TableValue, first_table}
+use Rattle.oa_store.specs.promise.Stores.{IsStoreAt}
+use Rattle.oa_table.specs.promise.Tables.{TableValue}
+use Rattle.oa_table.specs.Tables.{first_table}
 
 -- the nearest size that a bank can have, from 20 MiB to 1 GiB
 abbrev pub bank_near : ℕ → ℕ
@@ -30,7 +30,7 @@ pub record IsNewlyFormatted {D : Type 0} (g : Ghosts D) (size : ℕ) (disk : D) 
 pub record IsUpgraded {D : Type 0} (g : Ghosts D) (size : ℕ) (disk : D) : Type 0 where
   pub before : D
   pub begins : BeginsHonest g before
-  pub upgraded : IsTrue (g.is_honest disk) → IsBrought size (g.contents before) (g.image disk)
+  pub upgraded : IsTrue (g.is_honest disk) → IsMigrated size (g.contents before) (g.image disk)
 
 -- A disk was read, and this library and this table were found.
 pub record WasRead {D : Type 0} (g : Ghosts D) (library : List ℕ) (table : TableValue) : Type 0 where

@@ -6,8 +6,8 @@ ghost use Rattle.oa_commands.specs.Dumps.{BreaksOff, cell_line, cell_place, cell
 ghost use Rattle.oa_commands.specs.Dumps.{value_digits};
 ghost use Rattle.oa_commands.specs.Statuses.{IsOfDump, IsOfWriting};
 ghost use Rattle.oa_commands.specs.Stores.{WasRead};
-ghost use Rattle.oa_stream.specs.Sink.{IsHandedOn, Writes};
-ghost use Rattle.oa_table.specs.Tables.{TableValue};
+ghost use Rattle.oa_stream.specs.promise.Sink.{IsHandedOn, Writes};
+ghost use Rattle.oa_table.specs.promise.Tables.{TableValue};
 
 use crate::fault::Fault;
 use crate::store::open_to_read;
@@ -22,13 +22,18 @@ use oa_variant::{Scalar, Variant};
 use std::alloc::{AllocError, Global};
 use uuid::Uuid;
 
-/// Writes a line for each object of the store in the file `path` and for each of its cells, or the bytes of its
-/// library instead, and flushes. The file is closed before the first line. If it cannot be opened or holds no valid
-/// store, nothing is written.
+/// Writes a line for each object of the store in the file `path` and for each of its cells, and
+/// flushes. If `library` is set, it writes the bytes of the store's library instead. The file is
+/// closed before the first line. If it cannot be opened or holds no valid store, nothing is
+/// written.
 ///
-/// The file is opened for reading only. Errors: `CannotRead` if it cannot be opened or is not a regular file; `InUse`
-/// if another process has locked it; `NotAStore`; `Damaged` with the place in bytes; `DeviceRead` and `DeviceWrite`
-/// if a read or the sync before it failed; `Write` if the writer fails; `Memory` at any point.
+/// The file is opened for reading only. Errors:
+///
+/// - `CannotRead` if it cannot be opened or is not a regular file;
+/// - `InUse` if another process has locked it;
+/// - `NotAStore`; `Damaged` with the place in bytes;
+/// - `DeviceRead` and `DeviceWrite` if a read or the sync before it failed;
+/// - `Write` if the writer fails; `Memory` at any point.
 pub fn write_dump<W: Sink>(
     rt: &HostRuntime,
     streams: &StandardStreams,
@@ -41,8 +46,8 @@ pub fn write_dump<W: Sink>(
         × Writes (W.out writer.old) (W.out writer.new) (dump library text table)) }
     ensures handed_on { OnOk result (IsHandedOn (W.out writer.new)) }
     ensures refused { IfErr result IsOfDump }
-    // (after an error the writer has not changed, or has failed, or has received a prefix of the lines before an
-    // allocation failed)
+    // (after an error the writer has not changed, or has failed, or has received a prefix of the
+    // lines before an allocation failed)
     ensures broken { IfErr result (λ fault. (W.out writer.new ≡ W.out writer.old)
         ⊎ ((text : List ℕ) × (table : TableValue) × WasRead ⟦<FileDisk as Disk>⟧ text table
         × BreaksOff (W.out writer.old) (W.out writer.new) (dump library text table) fault)) }
@@ -52,7 +57,8 @@ pub fn write_dump<W: Sink>(
     put_dump(alloc, &text, &table, library, writer)
 }
 
-/// Reads the library and the table of a store.
+/// Returns the library and the table of the store in the file `path`. Errors are those of
+/// `write_dump` except `Write`.
 fn kept(
     rt: &HostRuntime,
     streams: &StandardStreams,
@@ -66,7 +72,8 @@ fn kept(
     Ok(inspect(alloc, &mut disk)?)
 }
 
-/// Writes the lines of a table, or a library instead, and flushes.
+/// Writes the lines of a table, or if `library` is set the library, and flushes. Errors: `Write`,
+/// `Memory`.
 fn put_dump<W: Sink>(
     alloc: Global,
     text: &[u8],
@@ -85,7 +92,7 @@ fn put_dump<W: Sink>(
     Ok(())
 }
 
-/// Writes a library, or the lines of a table.
+/// Writes the lines of a table, or if `library` is set the library. Errors: `Write`, `Memory`.
 fn put_either<W: Sink>(
     alloc: Global,
     text: &[u8],
@@ -105,7 +112,8 @@ fn put_either<W: Sink>(
     put_table(alloc, table, writer)
 }
 
-/// Writes a table: its next number, and its objects, each with its cells. One image at a time is in memory.
+/// Writes a table: its next number, and its objects, each with its cells. One image at a time is in
+/// memory. Errors: `Write`, `Memory`.
 fn put_table<W: Sink>(alloc: Global, table: &Table, writer: &mut W) -> Result<(), Fault>
     requires unbroken { (W.out writer.old).broken ≡ false }
     ensures written { OnOk result (Writes (W.out writer.old) (W.out writer.new) (table_lines table.now)) }
@@ -121,7 +129,7 @@ fn put_table<W: Sink>(alloc: Global, table: &Table, writer: &mut W) -> Result<()
     Ok(())
 }
 
-/// Returns the line of the next number.
+/// Returns the line of the next number. Err: the allocation failed.
 #[tactic(auto, unfolding(crate::specs::Dumps::next_line))]
 fn next_line(alloc: Global, next: u32) -> Result<String, AllocError>
     ensures { IfOk result (λ line. string_bytes line ≡ next_line next) }
@@ -129,7 +137,7 @@ fn next_line(alloc: Global, next: u32) -> Result<String, AllocError>
     format!(in alloc; "next {next}\n")
 }
 
-/// Writes the line of an object.
+/// Writes the line of an object: its number and its coclass. Errors: `Write`, `Memory`.
 #[tactic(auto, unfolding(crate::specs::Dumps::object_line))]
 fn put_object<W: Sink>(
     alloc: Global,
@@ -147,7 +155,7 @@ fn put_object<W: Sink>(
     Ok(())
 }
 
-/// Writes the lines of an object's cells.
+/// Writes the lines of an object's cells; `image` is their buffer. Errors: `Write`, `Memory`.
 fn put_cells<W: Sink>(
     alloc: Global,
     object: &LiveObject,
@@ -166,7 +174,7 @@ fn put_cells<W: Sink>(
     Ok(())
 }
 
-/// Writes a cell's line up to its key.
+/// Writes a cell's line up to the end of its key. Errors: `Write`, `Memory`.
 fn put_place<W: Sink>(
     alloc: Global,
     place: &Place,
@@ -183,7 +191,7 @@ fn put_place<W: Sink>(
     put_key(place.key(), image, writer)
 }
 
-/// Returns the part of a cell's line before its key.
+/// Returns the part of a cell's line before its key. Err: the allocation failed.
 #[tactic(auto, unfolding(crate::specs::Dumps::cell_start))]
 fn cell_start(alloc: Global, interface: Uuid, dispid: i32) -> Result<String, AllocError>
     ensures { IfOk result (λ start. string_bytes start ≡ cell_start interface dispid) }
@@ -191,7 +199,7 @@ fn cell_start(alloc: Global, interface: Uuid, dispid: i32) -> Result<String, All
     format!(in alloc; "cell {interface} {dispid} ")
 }
 
-/// Writes a key as digits.
+/// Writes a key as digits, `-` without arguments. Errors: `Write`, `Memory`.
 #[tactic(auto, unfolding(crate::specs::Dumps::key_digits))]
 fn put_key<W: Sink>(key: &[Scalar], image: &mut Vec<u8>, writer: &mut W) -> Result<(), Fault>
     requires unbroken { (W.out writer.old).broken ≡ false }
@@ -209,7 +217,7 @@ fn put_key<W: Sink>(key: &[Scalar], image: &mut Vec<u8>, writer: &mut W) -> Resu
     Ok(())
 }
 
-/// Writes the rest of a cell's line.
+/// Writes the rest of a cell's line: its value as digits. Errors: `Write`, `Memory`.
 #[tactic(auto, unfolding(crate::specs::Dumps::value_digits))]
 fn put_value<W: Sink>(value: &Variant, image: &mut Vec<u8>, writer: &mut W) -> Result<(), Fault>
     requires unbroken { (W.out writer.old).broken ≡ false }

@@ -4,12 +4,14 @@ ghost use Rattle.oa_commands.specs.Statuses.{of_end, of_session_end};
 
 use crate::fault::Fault;
 use oa_frame::End;
-use oa_share::SessionEnd;
+use oa_mux::SessionEnd;
 
-/// Converts the end of a session of one client into the program's result. The end of the input is no fault.
+/// Converts the end of a session of one client into the program's result. The end of the input is
+/// no fault.
 ///
-/// Returns `Cut` if the input ended within a record, `TooLong` for a line or record above the limit, `BadHex` with the line's number for a line
-/// that is not hexadecimal, `Read` and `Write` if standard input or output failed.
+/// Errors: `Cut` if the input ended within a record; `TooLong` for a line or record above the
+/// limit; `BadHex` with the line's number for a line that is not hexadecimal; `Read` and `Write` if
+/// standard input or output failed.
 pub fn client_ended(why: End) -> Result<(), Fault>
     ensures { result ≡ of_end why }
 {
@@ -23,11 +25,13 @@ pub fn client_ended(why: End) -> Result<(), Fault>
     }
 }
 
-/// Converts the end of a session of many clients into the program's result. The end of the input between two frames
-/// is no fault, and neither is the end of a client, whatever it was: only that client receives it.
+/// Converts the end of a session of many clients into the program's result. The end of the input
+/// between two frames is no fault. Neither is the end of a client, whatever it was: only that
+/// client receives it.
 ///
-/// Returns `FrameCut` if the input ended within a frame, `UnknownFrame` for a frame with an invalid head, `Memory` if
-/// an allocation for a part of a record failed, `Read` and `Write` if standard input or output failed.
+/// Errors: `FrameCut` if the input ended within a frame; `UnknownFrame` for a frame with an invalid
+/// head; `Memory` if an allocation for a part of a record failed; `Read` and `Write` if standard
+/// input or output failed.
 pub fn clients_ended(why: SessionEnd) -> Result<(), Fault>
     ensures { result ≡ of_session_end why }
 {

@@ -1,12 +1,13 @@
-//! The faults that end the program: one line on standard error, for some a second one with the cause, and a status.
+//! The faults that end the program: one line on standard error, for some a second one with the
+//! cause, and a status.
 ghost use Rattle.std.specs.Prelude.{◌≡◌, ◌≤◌};
 ghost use Rattle.oa_commands.specs.Statuses.{of_device, of_format, of_open, of_upgrade, status_of};
 ghost use Rattle.oa_commands.specs.declared.fault.Fault.TheVariants as faults;
 
-use crate::place::Place;
-use oa_checks::CheckError;
+use crate::place::TextPlace;
 use oa_disk::DeviceFault;
 use oa_idl::ParseError;
+use oa_sema::CheckError;
 use oa_store::{FormatFault, OpenFault, UpgradeFault};
 use oa_stream::Unwritten;
 use std::alloc::{AllocError, AllocFailed};
@@ -24,7 +25,8 @@ pub enum Fault {
     /// The file with this name does not exist, or cannot be opened or read, for this reason.
     #[error("cannot read {0}\n{0}: {1}")]
     CannotRead(String, String),
-    /// The file with this name cannot be created, lengthened or written in the required length, for this reason.
+    /// The file with this name cannot be created, lengthened or written in the required length, for
+    /// this reason.
     #[error("cannot write {0}\n{0}: {1}")]
     CannotWrite(String, String),
     /// Another process has locked the file with this name.
@@ -36,9 +38,9 @@ pub enum Fault {
     /// The text of a library violates the grammar or a limit.
     #[error("{0}")]
     Parse(ParseError),
-    /// The same, with the place in the text.
+    /// The text of a library violates the grammar, at this place of the text.
     #[error("{0}\n{1}")]
-    At(ParseError, Place),
+    At(ParseError, TextPlace),
     /// A library violates a rule.
     #[error("{0}")]
     Check(CheckError),
@@ -60,7 +62,8 @@ pub enum Fault {
     /// The bytes at this place of a store are invalid.
     #[error("damaged at {0}")]
     Damaged(u64),
-    /// A write to a store's file failed. The number in the message is STG_E_WRITEFAULT, for a read STG_E_READFAULT.
+    /// A write to a store's file failed. The number in the message is STG_E_WRITEFAULT, for a read
+    /// STG_E_READFAULT.
     #[error("device fault 0x8003001d")]
     DeviceWrite,
     /// A read of a store's file failed.
@@ -93,8 +96,8 @@ pub enum Fault {
 }
 
 impl Fault {
-    /// Returns the exit status: 1 for a file, a device, a reader or a writer; 2 for a command line or a library; 3
-    /// for a store; 4 for a record or a frame; 5 for out of memory. It is never 0.
+    /// Returns the exit status: 1 for a file, a device, a reader or a writer; 2 for a command line
+    /// or a library; 3 for a store; 4 for a record or a frame; 5 for out of memory. It is never 0.
     #[tactic(auto, using(crate::proofs::Failing::fails))]
     pub fn status(&self) -> u8
         ensures value { result ≡ status_of self.now }

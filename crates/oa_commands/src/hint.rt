@@ -1,7 +1,8 @@
-//! Words of automation IDL that the grammar does not have, for users with a text for another compiler.
+//! Words of automation IDL that the grammar does not have, for users with a text for another
+//! compiler.
 
-/// Words that other IDL compilers know and this grammar does not. docs/reference/idl.md has a row for each with what
-/// to write instead, in the section that `Place` names.
+/// Words that other IDL compilers know and this grammar does not. docs/reference/idl.md has a row
+/// for each with what to write instead, in the section that `TextPlace` names.
 const LEFT_OUT: &str =
     "double float single DATE boolean byte small wchar_t signed int64 uint64 HRESULT IDispatch IUnknown LPSTR LPWSTR GUID \
     FILETIME const enum struct union typedef module interface import include cpp_quote midl_pragma out retval ref unique ptr string size_is \
@@ -9,7 +10,7 @@ const LEFT_OUT: &str =
     requestedit displaybind defaultbind immediatebind nonbrowsable uidefault vararg lcid custom defaultcollelem replaceable helpcontext \
     helpfile helpstringcontext helpstringdll appobject control licensed noncreatable aggregatable public entry";
 
-/// Returns the word of another grammar that begins at a byte of a text, if there is one.
+/// Returns the word of another grammar that begins at byte `at` of a text; None if there is none.
 pub(crate) fn word_left_out(text: &str, at: usize) -> Option<&'static str> {
     let rest = text.as_bytes().get(at..)?;
     for word in LEFT_OUT.split_ascii_whitespace() {

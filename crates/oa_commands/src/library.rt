@@ -1,7 +1,7 @@
 //! Texts of libraries, and their libraries.
 ghost use Rattle.std.specs.Prelude.{◌≡◌, ◌≤◌, length, string_bytes, IfSome};
 ghost use Rattle.std.specs.Prelude.{ℕ, List, IfErr, IfOk};
-ghost use Rattle.oa_checks.specs.IsLibrary.{IsLibrary};
+ghost use Rattle.oa_sema.specs.promise.IsLibrary.{IsLibrary};
 ghost use Rattle.std.specs.IoError.{error_kind};
 ghost use Rattle.std.specs.declared.io.ErrorKind.TheVariants as kinds;
 ghost use Rattle.oa_commands.specs.declared.fault.Fault.TheVariants as faults;
@@ -24,11 +24,13 @@ use std::io::{ErrorKind, Read};
 /// The word for standard input instead of a file.
 pub const STANDARD_INPUT: &str = "-";
 
-/// How many bytes after a text's limit are read at once.
+/// The number of bytes after a text's limit that are read at once.
 const PIECE: u64 = 65_536;
 
-/// Reads the text of a library, from a file or from standard input. A text above the limit is read in pieces, one of
-/// them in memory, as long as it is UTF-8: an error of UTF-8 comes before the limit, wherever it is.
+/// Reads the text of a library from the file `path`, or from standard input if that is
+/// `STANDARD_INPUT`. Errors: `CannotRead`, `NotUtf8`, `Parse` for a text above the limit, `Memory`.
+/// A text above the limit is read in pieces, one of them in memory, as long as it is UTF-8: an
+/// error of UTF-8 comes before the limit, wherever it is.
 pub(crate) fn read_text(rt: &HostRuntime, alloc: Global, path: &str) -> Result<String, Fault>
     ensures { IfErr result IsOfLibraryText }
 {
@@ -43,17 +45,18 @@ pub(crate) fn read_text(rt: &HostRuntime, alloc: Global, path: &str) -> Result<S
 
 /// Reads the library of the file `path`, or of standard input if that is `STANDARD_INPUT`.
 ///
-/// Errors: `CannotRead` if it cannot be opened or read; `NotUtf8` for bytes that are not UTF-8, however many; `Parse`
-/// for a text of more than 262,144 bytes or one that violates another limit or the grammar; `Check` with the first
-/// violated rule; `Memory`, also as that of `Parse` and of `Check`.
-pub fn read_library(rt: &HostRuntime, alloc: Global, path: &str) -> Result<Library, Fault>
+/// Errors: `CannotRead` if it cannot be opened or read; `NotUtf8` for bytes that are not UTF-8,
+/// however many; `Parse` for a text of more than 262,144 bytes or one that violates another limit
+/// or the grammar; `Check` with the first violated rule; `Memory`, also as that of `Parse` and of
+/// `Check`.
+pub fn read_library_file(rt: &HostRuntime, alloc: Global, path: &str) -> Result<Library, Fault>
     ensures read { IfOk result (λ library. (text : List ℕ) × IsLibrary text library) }
     ensures refused { IfErr result IsOfLibrary }
 {
     library_of(alloc, &read_text(rt, alloc, path)?)
 }
 
-/// Returns the library of a text.
+/// Returns the library of a text. Errors: `Parse`, `Check`, each also if an allocation failed.
 pub(crate) fn library_of(alloc: Global, text: &str) -> Result<Library, Fault>
     ensures read { IfOk result (λ library. IsLibrary text.now library) }
     ensures refused { IfErr result IsOfTree }
@@ -61,7 +64,8 @@ pub(crate) fn library_of(alloc: Global, text: &str) -> Result<Library, Fault>
     Ok(check(alloc, parse(alloc, text)?)?)
 }
 
-/// Returns why a file cannot be read.
+/// Returns the fault of a file that cannot be read: `CannotRead`, or `Memory` if an allocation
+/// failed.
 pub(crate) fn unread(alloc: Global, error: &io::Error, path: &str) -> Fault
     ensures kind { IsOfReading result }
     ensures told { TellsUnread path.now result }
@@ -76,7 +80,8 @@ pub(crate) fn unread(alloc: Global, error: &io::Error, path: &str) -> Fault
     }
 }
 
-/// Reads all of a reader as a text. One byte above the limit shows that the text exceeds it.
+/// Reads all of a reader as a text. One byte above the limit shows that the text exceeds it. Errors
+/// are those of `read_text`.
 fn text_of<R: Read>(alloc: Global, reader: &mut R, path: &str) -> Result<String, Fault>
     ensures whole { IfOk result (λ text. IfSome (R.remaining reader.old) (λ bytes. IsWithinLimit bytes × (string_bytes text ≡ bytes))) }
     ensures long { IfErr result (λ fault. (fault ≡ faults.Parse (parsing.Limit limits.Text)) → IfSome (R.remaining reader.old) (λ bytes. IsWithinLimit bytes → ⊥)) }
@@ -98,8 +103,8 @@ fn text_of<R: Read>(alloc: Global, reader: &mut R, path: &str) -> Result<String,
     Ok(text)
 }
 
-/// Returns why a text is refused that begins with these bytes, which are more than a text may have: it is not UTF-8,
-/// or it exceeds the limit.
+/// Returns why a text is refused that begins with these bytes, which are more than a text may have:
+/// it is not UTF-8, or it exceeds the limit.
 fn refusal_of_long<R: Read>(alloc: Global, reader: &mut R, mut bytes: Vec<u8>, path: &str) -> Fault
     ensures { IsOfLibraryText result }
 {
@@ -119,7 +124,8 @@ fn refusal_of_long<R: Read>(alloc: Global, reader: &mut R, mut bytes: Vec<u8>, p
     Fault::Parse(ParseError::Limit(Limit::Text))
 }
 
-/// Returns how many of the bytes are whole characters; None unless only the beginning of one more follows them.
+/// Returns how many of the bytes are whole characters. None unless the bytes after these are the
+/// beginning of one more, or there are none.
 fn whole_characters(bytes: &[u8]) -> Option<usize>
     ensures { IfSome result (λ n. n ≤ length bytes.now) }
 {

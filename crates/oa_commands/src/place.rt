@@ -10,7 +10,7 @@ use std::fmt;
 
 /// A place in a text, with its line. A line ends at CR, LF or both.
 #[derive(Debug, Drop)]
-pub struct Place {
+pub struct TextPlace {
     /// The file, the line and the column, counted from 1, in characters.
     head: String,
     /// The text of the line, with `?` for characters that cannot be shown.
@@ -21,14 +21,15 @@ pub struct Place {
     left_out: Option<&'static str>,
 }
 
-impl Place {
-    /// Returns the place of the byte `at` in a text. The end of the text is a place, too.
+impl TextPlace {
+    /// Returns the place of the byte `at` in a text, counted from 0. The end of the text is a
+    /// place, too. Err: an allocation failed.
     pub(crate) fn of(
         alloc: Global,
         file: &str,
         text: &str,
         at: usize,
-    ) -> Result<Place, AllocError> {
+    ) -> Result<TextPlace, AllocError> {
         let mut line = Line::new(alloc);
         for (index, c) in text.char_indices() {
             if is_end(c) && at <= index {
@@ -55,7 +56,7 @@ struct Line {
 }
 
 impl Line {
-    /// The first line of a text.
+    /// Returns the first line of a text.
     fn new(alloc: Global) -> Line
         ensures number { result.number ≡ 1 }
         ensures column { result.column ≡ 1 }
@@ -72,7 +73,7 @@ impl Line {
         }
     }
 
-    /// Reads a character; `is_before` says whether it is before the place.
+    /// Reads a character; `is_before` is whether it is before the place. Err: an allocation failed.
     fn take(&mut self, c: char, is_before: bool) -> Result<(), AllocError>
         ensures { OnOk result (ReadsCharacter c is_before self.old self.new) }
     {
@@ -89,7 +90,8 @@ impl Line {
         Ok(())
     }
 
-    /// Begins the next line, except between a CR and its LF.
+    /// Begins the next line, except between a CR and its LF. `c` is the character that ends this
+    /// one.
     fn end(&mut self, c: char)
         ensures { BeginsLine c self.old self.new }
     {
@@ -101,20 +103,20 @@ impl Line {
         self.blank.clear();
     }
 
-    /// Returns the place that was reached, in a file.
+    /// Returns the place that was reached, in the file with this name. Err: an allocation failed.
     fn placed(
         self,
         alloc: Global,
         file: &str,
         left_out: Option<&'static str>,
-    ) -> Result<Place, AllocError>
+    ) -> Result<TextPlace, AllocError>
         ensures head { IfOk result (λ place. string_bytes place.head ≡ place_head file.now self.number self.column) }
         ensures line { IfOk result (λ place. place.line ≡ self.shown) }
     {
         let file = shown_name(alloc, file)?;
         let head = format!(in alloc; "{file}:{}:{}: ", self.number, self.column)?;
         let blank = blanks(alloc, &head, &self.blank)?;
-        Ok(Place {
+        Ok(TextPlace {
             head,
             line: self.shown,
             blank,
@@ -130,7 +132,8 @@ fn is_end(c: char) -> bool
     c == '\n' || c == '\r'
 }
 
-/// Returns blanks as wide as the text before a line, and those of the line.
+/// Returns blanks as wide as the text before a line, and those of the line. Err: an allocation
+/// failed.
 fn blanks(alloc: Global, head: &str, of_line: &str) -> Result<String, AllocError> {
     let mut blanks = String::new(alloc);
     for _ in head.chars() {
@@ -147,7 +150,7 @@ fn shown(c: char) -> char
     if c != '\t' && c.is_control() { '?' } else { c }
 }
 
-impl fmt::Display for Place {
+impl fmt::Display for TextPlace {
     fn fmt<W: fmt::Write>(&self, f: &mut fmt::Formatter<W>) -> fmt::Result {
         write!(f, "{}{}\n{}^", self.head, self.line, self.blank)?;
         match self.left_out {

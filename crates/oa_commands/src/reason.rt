@@ -3,8 +3,9 @@ use std::alloc::{AllocError, Global};
 use std::io;
 use std::io::ErrorKind;
 
-/// Returns the system's text for a failed call, without the number that std appends. `FileDisk`'s own errors have
-/// their own texts: a file that is not a regular one, and one that another process has locked.
+/// Returns the system's text for a failed call, without the number that std appends. Two errors of
+/// `FileDisk` have texts of their own: a file that is not a regular one, and one that another
+/// process has locked. Err: an allocation failed.
 pub(crate) fn reason(alloc: Global, error: &io::Error) -> Result<String, AllocError> {
     if error.raw_os_error().is_none() {
         match error.kind() {

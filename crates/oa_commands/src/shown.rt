@@ -4,7 +4,8 @@ ghost use Rattle.oa_commands.specs.Shown.{shown_character, shown_name as as_show
 
 use std::alloc::{AllocError, Global};
 
-/// Returns a file's name with `\u{a}` and the like for its control characters, so that the fault stays one line.
+/// Returns a file's name with `\u{a}` and the like for its control characters, so that the fault
+/// stays one line. Err: an allocation failed.
 pub(crate) fn shown_name(alloc: Global, name: &str) -> Result<String, AllocError>
     ensures { IfOk result (λ shown. string_bytes shown ≡ as_shown name.now) }
 {
@@ -15,7 +16,7 @@ pub(crate) fn shown_name(alloc: Global, name: &str) -> Result<String, AllocError
     Ok(shown)
 }
 
-/// Appends a character, or its escape.
+/// Appends a character, or its escape. Err: an allocation failed.
 fn push_shown(shown: &mut String, c: char) -> Result<(), AllocError>
     ensures { OnOk result (string_bytes shown.new ≡ string_bytes shown.old ++ shown_character c) }
 {

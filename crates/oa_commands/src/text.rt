@@ -1,25 +1,25 @@
 //! The canonical text of a library.
 ghost use Rattle.std.specs.Prelude.{◌≡◌, ◌⊎◌, ℕ, List, false, IfErr, IfOk, OnOk};
-ghost use Rattle.oa_checks.specs.IsLibrary.{IsLibrary};
+ghost use Rattle.oa_sema.specs.promise.IsLibrary.{IsLibrary};
 ghost use Rattle.oa_commands.specs.Statuses.{IsOfCheck, IsOfPlace, IsOfPlacedLibrary, IsOfTree};
 ghost use Rattle.oa_commands.specs.Texts.{IsPrinted};
 ghost use Rattle.oa_commands.specs.declared.fault.Fault.TheVariants as faults;
-ghost use Rattle.oa_stream.specs.Sink.{Breaks, IsHandedOn, Writes};
+ghost use Rattle.oa_stream.specs.promise.Sink.{Breaks, IsHandedOn, Writes};
 
 use crate::fault::Fault;
 use crate::library::{library_of, read_text};
-use crate::place::Place;
+use crate::place::TextPlace;
 use oa_idl::ParseError;
 use oa_stream::Sink;
 use oa_typelib::Library;
 use std::alloc::Global;
 
-/// Writes the canonical text of the library of the file `path`, or of standard input, and flushes. Nothing is written
-/// for a library with an error.
+/// Writes the canonical text of the library of the file `path`, or of standard input, and flushes.
+/// Nothing is written for a library with an error.
 ///
-/// Errors: those of `read_library`, but `At` instead of `Parse(Syntax)` if `shows_place` is set and there is memory
-/// for the place; `Write` if the writer fails.
-pub fn write_text<W: Sink>(
+/// Errors: those of `read_library_file`, but `At` instead of `Parse(Syntax)` if `shows_place` is set and
+/// there is memory for the place; `Write` if the writer fails.
+pub fn write_library_text<W: Sink>(
     rt: &HostRuntime,
     path: &str,
     shows_place: bool,
@@ -37,7 +37,7 @@ pub fn write_text<W: Sink>(
     put_text(library.text(), writer)
 }
 
-/// Reads the library of a file. If `shows_place` is set, a fault has its place in the text.
+/// Returns the library of the file `path`. Errors are those of `write_library_text` except `Write`.
 fn library_at(
     rt: &HostRuntime,
     alloc: Global,
@@ -54,7 +54,7 @@ fn library_at(
     }
 }
 
-/// Writes a text, and flushes.
+/// Writes a text, and flushes. Err: `Write`.
 fn put_text<W: Sink>(text: &[u8], writer: &mut W) -> Result<(), Fault>
     requires unbroken { (W.out writer.old).broken ≡ false }
     ensures written { OnOk result (Writes (W.out writer.old) (W.out writer.new) text.now) }
@@ -66,13 +66,14 @@ fn put_text<W: Sink>(text: &[u8], writer: &mut W) -> Result<(), Fault>
     Ok(())
 }
 
-/// Adds the place in the text to a fault, if it has one and there is memory for it.
+/// Adds the place in the text to a syntax error, if there is memory for it. Any other fault stays
+/// as it is.
 fn placed(alloc: Global, path: &str, text: &str, fault: Fault) -> Fault
     requires { IsOfTree fault }
     ensures { IsOfTree result ⊎ IsOfPlace result }
 {
     match fault {
-        Fault::Parse(error @ ParseError::Syntax(at)) => match Place::of(alloc, path, text, at) {
+        Fault::Parse(error @ ParseError::Syntax(at)) => match TextPlace::of(alloc, path, text, at) {
             Ok(place) => Fault::At(error, place),
             Err(_) => Fault::Parse(error),
         },

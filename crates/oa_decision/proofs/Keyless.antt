@@ -3,11 +3,11 @@ use Rattle.std.proofs.Common.{◌≡◌, ℕ, ℤ, zero, suc, Bool, true, false,
 use Rattle.std.proofs.lemmas.Option.{none-some}
 use Rattle.std.specs.List.{filter_map}
 use Rattle.std.specs.Option.{option_map}
-use Rattle.oa_checks.specs.DeclarationValues.{DeclarationValue}
-use Rattle.oa_checks.specs.Declarations.{declarations, kind_of_property, of_property, of_method, own_parameters}
-use Rattle.oa_idl.specs.Values.{InterfaceValue}
+use Rattle.oa_sema.specs.promise.DeclarationValues.{DeclarationValue}
+use Rattle.oa_sema.specs.promise.Declarations.{declarations, kind_of_property, of_property, of_method, own_parameters}
+use Rattle.oa_idl.specs.promise.Values.{InterfaceValue}
 use Rattle.oa_idl.specs.declared.parts.Property.{Property}
-use Rattle.oa_typelib.specs.Members.{answer, forms_with, kind_asked, lets, main_form, property_of}
+use Rattle.oa_typelib.specs.promise.Members.{answer, forms_with, kind_asked, lets, main_form, property_of}
 use Rattle.oa_typelib.specs.declared.access.Access.{Access}
 use Rattle.oa_typelib.specs.declared.access.Kind.{Kind}
 use Rattle.oa_typelib.specs.declared.access.Kind.TheVariants as forms

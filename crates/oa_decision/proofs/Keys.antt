@@ -2,17 +2,18 @@
 use Rattle.std.proofs.Common.{◌≡◌, ◌≤◌, ◌+◌, ℕ, suc, List, [], ◌∷◌, length, Result, Ok, Err, IfOk, refl, ap, arith}
 use Rattle.oa_model.specs.Limits.{max_key_scalars}
 use Rattle.oa_bind.specs.declared.fault.BindFault.{BindFault}
-use Rattle.oa_bind.specs.Bindings.{bound_call, bound_to, given_new_value, parameter_value}
-use Rattle.oa_bind.specs.Calls.{BoundCallValue}
-use Rattle.oa_bind.specs.Given.{Given}
-use Rattle.oa_bind.specs.Names.{complete, well_named}
-use Rattle.oa_bind.specs.Refusals.{◌>>=◌, each_at}
+use Rattle.oa_bind.specs.promise.Bindings.{bound_call, bound_to, given_new_value, parameter_value}
+use Rattle.oa_bind.specs.promise.Calls.{BoundCallValue}
+use Rattle.oa_bind.specs.promise.Given.{Given}
+use Rattle.oa_bind.specs.promise.Names.{complete, well_named}
+use Rattle.oa_bind.specs.promise.Refusals.{◌>>=◌, each_at}
 use Rattle.oa_typelib.specs.Bindable.{IsBindable}
-use Rattle.oa_typelib.specs.MemberValues.{MemberValue}
+use Rattle.oa_typelib.specs.promise.MemberValues.{MemberValue}
 use Rattle.oa_typelib.specs.declared.access.Kind.{Kind}
 
 -- what holds of the second answer, whatever the first one is
-pub if_both : {A B : Type 0} (P : B → Type 0) (first : Result A BindFault) (next : A → Result B BindFault) → ((x : A) → first ≡ Ok x → IfOk (next x) P) → IfOk (first >>= next) P
+pub if_both : {A B : Type 0} (P : B → Type 0) (first : Result A BindFault) (next : A → Result B BindFault) → ((x : A) → first ≡ Ok x → IfOk (next x) P)
+    → IfOk (first >>= next) P
 if_both P (Ok x) next h = h x refl
 if_both P (Err fault) next h = tt
 
@@ -21,7 +22,8 @@ one_each : {X Y : Type 0} (answer : ℕ → X → Result Y BindFault) (place : �
 unfolding each_at
 one_each answer place [] = refl
 one_each answer place (x ∷ xs) =
-    if_both _ (answer place x) _ (λ y here. if_both _ (each_at answer (place + 1) xs) _ (λ ys rest. ap (λ n. suc n) (rw rest at (one_each answer (place + 1) xs))))
+    if_both _ (answer place x) _ (λ y here. if_both _ (each_at answer (place + 1) xs) _
+    (λ ys rest. ap (λ n. suc n) (rw rest at (one_each answer (place + 1) xs))))
 
 abbrev HasFew : BoundCallValue → Type 0
 HasFew call = length call.key ≤ max_key_scalars

@@ -8,3 +8,4 @@ mod Refusing
 mod Disconnected
 mod Added
 mod Bringing
+pub mod Entries

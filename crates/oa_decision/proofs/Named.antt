@@ -1,12 +1,12 @@
 -- As many DISPIDs are answered as there are names.
 use Rattle.std.proofs.Common.{arith, Vec, Global, ◌≡◌, ℕ, ◌≤◌, List, [], ◌∷◌, suc, Option, Some, None, length, map, refl, ap}
 use Rattle.std.proofs.lemmas.List.{length-map}
-use Rattle.oa_idl.specs.Values.{InterfaceValue}
-use Rattle.oa_model.specs.Limits.{max_names}
-use Rattle.oa_checks.specs.DeclarationValues.{DeclarationValue}
-use Rattle.oa_checks.specs.Declarations.{own_parameters}
-use Rattle.oa_typelib.specs.Members.{forms_named, main_form}
-use Rattle.oa_typelib.specs.Names.{ids_in, named_in, names_told, or_unknown, parameter_named}
+use Rattle.oa_idl.specs.promise.Values.{InterfaceValue}
+use Rattle.oa_model.specs.promise.Limits.{max_names}
+use Rattle.oa_sema.specs.promise.DeclarationValues.{DeclarationValue}
+use Rattle.oa_sema.specs.promise.Declarations.{own_parameters}
+use Rattle.oa_typelib.specs.promise.Members.{forms_named, main_form}
+use Rattle.oa_typelib.specs.promise.Names.{ids_in, named_in, names_told, or_unknown, parameter_named}
 
 ids_count : (d : Option DeclarationValue) (names : List (List ℕ)) → length (ids_in d names) ≡ length names
 ids_count None names = length-map names (λ name. None)

@@ -1,23 +1,23 @@
 -- Plans for a call with no more than a new value. (This project's choice.)
 use Rattle.std.specs.Prelude.{◌≡◌, ◌⊎◌, List, [], ℕ, ℤ, None, Result, Ok}
 use Rattle.oa_coerce.specs.declared.fault.CoerceFault.{CoerceFault}
-use Rattle.oa_model.specs.Codes.{e_outofmemory, s_ok}
+use Rattle.oa_model.specs.promise.Codes.{e_outofmemory, s_ok}
 use Rattle.oa_model.specs.declared.var_type.ValueType.{ValueType}
 use Rattle.oa_record.specs.declared.request.Request.{Request}
-use Rattle.oa_record.specs.Replies.{ReplyValue}
+use Rattle.oa_record.specs.promise.Replies.{ReplyValue}
 use Rattle.oa_table.specs.declared.event.Event.{Event}
 use Rattle.oa_table.specs.declared.event.Event.TheVariants as events
 use Rattle.oa_table.specs.declared.name.CellName.{CellName}
 use Rattle.oa_table.specs.Events.{BringsNoLocks}
 use Rattle.oa_variant.specs.declared.variant.Variant.{Variant}
-use Rattle.oa_variant.specs.Variants.{unlocked}
+use Rattle.oa_variant.specs.promise.Variants.{unlocked}
 use Rattle.oa_decision.specs.declared.decision.Decision.TheVariants as decisions
 use Rattle.oa_decision.specs.declared.plan.ValuePlan.{ValuePlan}
 use Rattle.oa_decision.specs.declared.plan.ValuePlan.TheVariants.{Answered, Put}
 use Rattle.oa_decision.specs.declared.plan.ValuePut.{ValuePut}
-use Rattle.oa_decision.specs.Invoke.{reply_value}
-use Rattle.oa_decision.specs.States.{State}
-use Rattle.oa_decision.specs.Decided.{RequestTakesMemory, decided, refusal}
+use Rattle.oa_decision.specs.promise.Invoke.{reply_value}
+use Rattle.oa_decision.specs.promise.States.{State}
+use Rattle.oa_decision.specs.promise.Decided.{RequestTakesMemory, decided, refusal}
 
 -- a reply of S_OK with these fields
 abbrev pub reply_told : ℕ → List ℕ → ReplyValue

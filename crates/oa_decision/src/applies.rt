@@ -1,8 +1,8 @@
 //! Whether an event applies to a table.
 ghost use Rattle.std.specs.Prelude.{◌≡◌, ℕ, List};
 ghost use Rattle.oa_decision.specs.Limits.{GivesReason};
-ghost use Rattle.oa_table.specs.Elements.{with_element_put, redimensioned_value};
-ghost use Rattle.oa_table.specs.Events.{applied};
+ghost use Rattle.oa_table.specs.promise.Elements.{with_element_put, redimensioned_value};
+ghost use Rattle.oa_table.specs.promise.Events.{applied};
 ghost use Rattle.oa_table.specs.declared.event.Event.TheVariants as events;
 ghost use Rattle.oa_variant.specs.declared.variant.Variant.TheVariants as variants;
 ghost use Rattle.oa_variant.specs.declared.variant.Variant.{Variant as AVariant};
@@ -25,6 +25,8 @@ pub(crate) fn refusal_of(table: &Table, event: &Event) -> Option<TableFault>
     }
 }
 
+/// Returns why a creation is refused: `number` is not the table's next one, or is above the
+/// greatest number. None if it applies.
 fn of_create(table: &Table, number: u32) -> Option<TableFault>
     ensures { (class : List ℕ) → GivesReason (applied (events.Create number class) table.now) result }
 {
@@ -34,6 +36,8 @@ fn of_create(table: &Table, number: u32) -> Option<TableFault>
     None
 }
 
+/// Returns why a release is refused: the object is not live, or has a locked array. None if it
+/// applies.
 fn of_release(table: &Table, number: u32) -> Option<TableFault>
     ensures { GivesReason (applied (events.Release number) table.now) result }
 {
@@ -46,6 +50,8 @@ fn of_release(table: &Table, number: u32) -> Option<TableFault>
     None
 }
 
+/// Returns why a put is refused: the object is not live, or the array in the cell is locked. None
+/// if it applies.
 fn of_put(table: &Table, name: &CellName) -> Option<TableFault>
     ensures { (value : AVariant) → GivesReason (applied (events.Put name.now value) table.now) result }
 {
@@ -60,6 +66,8 @@ fn of_put(table: &Table, name: &CellName) -> Option<TableFault>
     None
 }
 
+/// Returns why an element is refused: the object is not live, the cell has no array, or the array
+/// refuses it. None if it applies.
 fn of_element(
     table: &Table,
     name: &CellName,
@@ -77,6 +85,8 @@ fn of_element(
     }
 }
 
+/// Returns why an array refuses an element: the index list is not within its bounds, or else the
+/// element is of another type. None if it does not.
 fn of_array_element(
     array: &SafeArray<Scalar>,
     index: &[i32],
@@ -96,6 +106,8 @@ fn of_array_element(
     }
 }
 
+/// Returns why a bound is refused: the object is not live, the cell has no array, or the array
+/// refuses it. None if it applies.
 fn of_redim(table: &Table, name: &CellName, bound: Bound) -> Option<TableFault>
     ensures { GivesReason (applied (events.Redim name.now bound) table.now) result }
 {
@@ -108,6 +120,8 @@ fn of_redim(table: &Table, name: &CellName, bound: Bound) -> Option<TableFault>
     }
 }
 
+/// Returns why an array refuses a bound: the array is locked, or else cannot have it. None if it
+/// does not.
 fn of_array_redim(array: &SafeArray<Scalar>, bound: Bound) -> Option<TableFault>
     ensures { GivesReason (redimensioned_value bound (variants.Array array.now)) result }
 {

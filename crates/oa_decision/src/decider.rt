@@ -1,11 +1,11 @@
 //! Deciding about a request: it only reads the library and the table of objects.
 ghost use Rattle.std.specs.Prelude.{◌≡◌, IfOk, IsOk};
 ghost use Rattle.oa_decision.specs.Decisions.{ChangesNoLocks, Decides};
-ghost use Rattle.oa_decision.specs.Decided.{DecidingTakesMemory, decided};
-ghost use Rattle.oa_decision.specs.Queries.{answered, told};
+ghost use Rattle.oa_decision.specs.promise.Decided.{DecidingTakesMemory, decided};
+ghost use Rattle.oa_decision.specs.promise.Queries.{answered, query_fields};
 ghost use Rattle.oa_record.specs.declared.request.Request.TheVariants as requests;
 
-use crate::decision::{Decision, Undecided};
+use crate::decision::{DecideError, Decision};
 use crate::fields::Fields;
 use oa_model::HResult;
 use oa_record::{ByCall, ByNumber, Call, Query, Request};
@@ -30,7 +30,8 @@ mod type_info;
 mod unlock;
 mod value_call;
 
-/// The things on which a reply depends: a library, a table of its objects, and how large the table may grow.
+/// The things on which a reply depends: a library, a table of its objects, and how large the table
+/// may grow.
 #[derive(Drop)]
 pub struct Decider<'a> {
     alloc: Global,
@@ -41,7 +42,7 @@ pub struct Decider<'a> {
 }
 
 impl<'a> Model for Decider<'a> {
-    ghost use Rattle.oa_decision.specs.States.{State};
+    ghost use Rattle.oa_decision.specs.promise.States.{State};
 
     ghost Value = { State };
 
@@ -49,7 +50,8 @@ impl<'a> Model for Decider<'a> {
 }
 
 impl<'a> Decider<'a> {
-    /// Makes a decider over this library and this table, with a bank's body of `bank` bytes. Allocates nothing.
+    /// Makes a decider over this library and this table, with a bank's body of `bank` bytes.
+    /// Allocates nothing.
     pub fn new(alloc: Global, bank: u32, library: &'a Library, table: &'a Table) -> Decider<'a>
         ensures { result ≡ record { bank = bank; library = library.now; table = table.now } }
     {
@@ -61,11 +63,12 @@ impl<'a> Decider<'a> {
         }
     }
 
-    /// Decides a request: the reply, or the change that it asks for, which may still be refused. It only reads.
-    /// Errors: `Refused` with the first refusal in the documented order; `OutOfMemory` if an allocation fails, which
-    /// is needed for the arguments of a call, for the fields of a reply, and for the zero array of a cell that a
-    /// REDIM changes and that was never put.
-    pub fn decide(&self, request: Request) -> Result<Decision, Undecided>
+    /// Decides a request: the reply, or the change that it asks for, which may still be refused. It
+    /// only reads. Errors: `Refused` with the first refusal in the documented order; `OutOfMemory`
+    /// if an allocation fails. It allocates for the arguments of a call and for the fields of a
+    /// reply. It also allocates the zero array of a cell that a REDIM changes and that was never
+    /// put.
+    pub fn decide(&self, request: Request) -> Result<Decision, DecideError>
         ensures decided { Decides (decided self.now request) (DecidingTakesMemory self.now request) result }
         ensures unlocked { IfOk result ChangesNoLocks }
     {
@@ -85,8 +88,8 @@ impl<'a> Decider<'a> {
         }
     }
 
-    /// Decides a request with a number.
-    fn decide_number(&self, kind: ByNumber, number: u32) -> Result<Decision, Undecided>
+    /// Decides a request with a number. Errors are those of `decide`.
+    fn decide_number(&self, kind: ByNumber, number: u32) -> Result<Decision, DecideError>
         ensures decided { Decides (decided self.now (requests.ByNumber kind number)) (DecidingTakesMemory self.now (requests.ByNumber kind number)) result }
         ensures unlocked { IfOk result ChangesNoLocks }
     {
@@ -96,8 +99,8 @@ impl<'a> Decider<'a> {
         }
     }
 
-    /// Decides a request with a call.
-    fn decide_call(&self, kind: ByCall, call: Call) -> Result<Decision, Undecided>
+    /// Decides a request with a call. Errors are those of `decide`.
+    fn decide_call(&self, kind: ByCall, call: Call) -> Result<Decision, DecideError>
         ensures decided { Decides (decided self.now (requests.ByCall kind call)) (DecidingTakesMemory self.now (requests.ByCall kind call)) result }
         ensures unlocked { IfOk result ChangesNoLocks }
     {
@@ -108,8 +111,8 @@ impl<'a> Decider<'a> {
         }
     }
 
-    /// Decides a request without fields: it is always answered.
-    fn answered(&self, query: Query) -> Result<Decision, Undecided>
+    /// Decides a request without fields, which is always answered. Err: `OutOfMemory`.
+    fn answered(&self, query: Query) -> Result<Decision, DecideError>
         ensures decided { Decides (answered self.now query) (IsOk (answered self.now query)) result }
         ensures unlocked { IfOk result ChangesNoLocks }
     {
@@ -118,9 +121,9 @@ impl<'a> Decider<'a> {
         Ok(Decision::Answer { code, fields })
     }
 
-    /// Returns the fields of its reply.
+    /// Returns the fields of the reply to a request without fields. Err: an allocation failed.
     fn told(&self, query: Query) -> Result<Fields, AllocError>
-        ensures { IfOk result (λ fields. fields ≡ told self.now query) }
+        ensures { IfOk result (λ fields. fields ≡ query_fields self.now query) }
     {
         match query {
             Query::Objects => self.objects_field(),

@@ -1,7 +1,7 @@
 //! The result of deciding a request, before anything is changed.
 ghost use Rattle.std.specs.Prelude.{◌≡◌};
 ghost use Rattle.oa_decision.specs.Cells.{undecided};
-ghost use Rattle.oa_decision.specs.declared.decision.Undecided.TheVariants.{OutOfMemory, Refused};
+ghost use Rattle.oa_decision.specs.declared.decision.DecideError.TheVariants.{OutOfMemory, Refused};
 
 use crate::fields::Fields;
 use crate::refusal::Refusal;
@@ -17,9 +17,11 @@ use thiserror::Error;
 pub enum Decision {
     /// The reply has this code and these fields. Nothing changes.
     Answer { code: HResult, fields: Fields },
-    /// The table is to be changed, and the reply then has these fields; if the change is refused, so is the request.
+    /// The table is to be changed, and the reply then has these fields; if the change is refused,
+    /// so is the request.
     Change { event: SizedEvent, fields: Fields },
-    /// A lock is to be changed, and the reply then has these fields; if the change is refused, so is the request.
+    /// A lock is to be changed, and the reply then has these fields; if the change is refused, so
+    /// is the request.
     Relock { change: LockChange, fields: Fields },
 }
 
@@ -34,7 +36,7 @@ pub enum LockChange {
 
 /// Why a request was not decided.
 #[derive(Debug, Drop, Error)]
-pub enum Undecided {
+pub enum DecideError {
     /// The request is refused.
     #[error("{0}")]
     Refused(Refusal),
@@ -43,31 +45,31 @@ pub enum Undecided {
     OutOfMemory,
 }
 
-impl From<Refusal> for Undecided {
+impl From<Refusal> for DecideError {
     ghost from_gives = { λ refusal e. e ≡ Refused refusal };
 
-    fn from(refusal: Refusal) -> Undecided {
-        Undecided::Refused(refusal)
+    fn from(refusal: Refusal) -> DecideError {
+        DecideError::Refused(refusal)
     }
 }
 
-impl From<BindFault> for Undecided {
+impl From<BindFault> for DecideError {
     ghost from_gives = { λ fault e. e ≡ undecided fault };
 
-    fn from(fault: BindFault) -> Undecided {
+    fn from(fault: BindFault) -> DecideError {
         let BindFault { code, index } = fault;
         if code == HResult::E_OUTOFMEMORY && index.is_none() {
-            Undecided::OutOfMemory
+            DecideError::OutOfMemory
         } else {
-            Undecided::Refused(Refusal { code, index })
+            DecideError::Refused(Refusal { code, index })
         }
     }
 }
 
-impl From<AllocError> for Undecided {
+impl From<AllocError> for DecideError {
     ghost from_gives = { λ _ e. e ≡ OutOfMemory };
 
-    fn from(_: AllocError) -> Undecided {
-        Undecided::OutOfMemory
+    fn from(_: AllocError) -> DecideError {
+        DecideError::OutOfMemory
     }
 }

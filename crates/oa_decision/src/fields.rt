@@ -5,7 +5,7 @@ ghost use Rattle.oa_record.specs.Replies.{max_fields_bytes};
 use std::alloc::Global;
 use std::marker::Model;
 
-/// The bytes of a reply's fields, at most as many as a reply can have.
+/// The bytes of a reply's fields, at most `MAX_FIELDS_BYTES`.
 #[derive(Drop)]
 pub struct Fields {
     bytes: Vec<u8>,
@@ -23,7 +23,7 @@ impl Model for Fields {
 }
 
 impl Fields {
-    /// Makes these fields.
+    /// Makes fields of these bytes, of which a reply can have that many.
     pub(crate) fn new(bytes: Vec<u8>) -> Fields
         requires { length bytes.items ≤ max_fields_bytes }
         ensures { result ≡ bytes.items }

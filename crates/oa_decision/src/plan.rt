@@ -10,7 +10,7 @@ use oa_variant::Variant;
 use std::alloc::Global;
 use uuid::Uuid;
 
-/// The rest of a turn, after its decision.
+/// The rest of a turn after its decision.
 #[derive(Drop)]
 pub enum Plan {
     /// Nothing: this is the reply, and an image of the table would be as before.
@@ -30,7 +30,7 @@ pub struct Planned {
     pub fields: Fields,
 }
 
-/// The rest of a call with at most a new value, on a property without parameters.
+/// The rest of a call on a property without parameters, with at most a new value.
 #[derive(Drop)]
 pub enum ValuePlan {
     /// Nothing: this is the reply, and nothing changes.

@@ -1,7 +1,7 @@
 //! Why a request is refused.
 ghost use Rattle.std.specs.Prelude.{◌≡◌, None};
-ghost use Rattle.oa_array.specs.Faults.{array_code};
-ghost use Rattle.oa_typelib.specs.MemberCodes.{member_code};
+ghost use Rattle.oa_array.specs.promise.Faults.{array_code};
+ghost use Rattle.oa_typelib.specs.promise.MemberCodes.{member_code};
 
 use oa_array::ArrayFault;
 use oa_model::HResult;

@@ -4,8 +4,9 @@ use Rattle.std.proofs.Common.{slice_get, refl, sym, ◌∙◌, ap, subst, arith}
 use Rattle.std.proofs.lemmas.List.{drop-drop, take-append-drop}
 use Rattle.oa_disk.specs.declared.call.DeviceCall.{DeviceCall}
 use Rattle.oa_disk.specs.declared.call.DeviceCall.TheVariants.{Read, Write, Sync}
-use Rattle.oa_disk.specs.Replay.{DiskState, IsImage, IsImageOfSome, IsOutside, AllInside, during_call, after_call, last_state, states}
-use Rattle.oa_disk.specs.Replay.{count_of, count_all, overwritten}
+use Rattle.oa_disk.specs.promise.Disk.{DiskState, IsImage, IsOutside, after_call, last_state, count_of, count_all}
+use Rattle.oa_disk.specs.promise.Disk.{overwritten}
+use Rattle.oa_disk.specs.Replay.{IsImageOfSome, AllInside, during_call, states}
 use Rattle.oa_disk.specs.Overwritten.{length-overwritten, overwritten_below, overwritten_above}
 
 -- the call is inside
@@ -64,7 +65,8 @@ pub last_state-append : (xs ys : List DeviceCall) (state : DiskState) (bytes : L
 last_state-append [] ys state bytes = refl
 last_state-append (x ∷ xs) ys state bytes =
     last_state-append xs ys (after_call state x (take (count_of x) bytes)) (drop (count_of x) bytes)
-    ∙ ap (λ (l : List ℕ). last_state (last_state (after_call state x (take (count_of x) bytes)) xs (drop (count_of x) bytes)) ys l) (drop-drop (count_all xs) (count_of x) bytes)
+    ∙ ap (λ (l : List ℕ). last_state (last_state (after_call state x (take (count_of x) bytes)) xs (drop (count_of x) bytes)) ys l)
+    (drop-drop (count_all xs) (count_of x) bytes)
 
 -- the contents do not depend on what is pending
 pub same_contents : (calls : List DeviceCall) (one other : DiskState) (bytes : List ℕ) → one.contents ≡ other.contents
@@ -72,8 +74,10 @@ pub same_contents : (calls : List DeviceCall) (one other : DiskState) (bytes : L
 same_contents [] one other bytes is = is
 same_contents (Read ∷ calls) one other bytes is = same_contents calls one other (drop 0 bytes) is
 same_contents (Write at count ∷ calls) one other bytes is =
-    same_contents calls (after_call one (Write at count) (take count bytes)) (after_call other (Write at count) (take count bytes)) (drop count bytes) (ap (λ (l : List ℕ). overwritten l at (take count bytes)) is)
-same_contents (Sync ∷ calls) one other bytes is = same_contents calls (after_call one Sync (take 0 bytes)) (after_call other Sync (take 0 bytes)) (drop 0 bytes) is
+    same_contents calls (after_call one (Write at count) (take count bytes)) (after_call other (Write at count) (take count bytes)) (drop count bytes)
+    (ap (λ (l : List ℕ). overwritten l at (take count bytes)) is)
+same_contents (Sync ∷ calls) one other bytes is = same_contents calls (after_call one Sync (take 0 bytes)) (after_call other Sync (take 0 bytes))
+    (drop 0 bytes) is
 
 -- the same outside the pending ranges
 pub record AgreesOutsidePending (state : DiskState) (image : List ℕ) : Type 0 where
@@ -112,7 +116,8 @@ even_state calls state bytes zero (suc moment) is le = absurd (omega arith)
 even_state calls state bytes (suc n) zero is le = absurd (omega arith)
 even_state calls state bytes (suc n) (suc zero) is le = absurd (omega arith)
 even_state [] state bytes (suc n) (suc (suc moment)) is le = absurd (omega arith)
-even_state (call ∷ calls) state bytes (suc n) (suc (suc moment)) is le = even_state calls (after_call state call (take (count_of call) bytes)) (drop (count_of call) bytes) n moment (omega arith) (omega arith)
+even_state (call ∷ calls) state bytes (suc n) (suc (suc moment)) is le = even_state calls (after_call state call (take (count_of call) bytes))
+    (drop (count_of call) bytes) n moment (omega arith) (omega arith)
 
 pub odd_state : (calls : List DeviceCall) (state : DiskState) (bytes : List ℕ) (n moment : ℕ) (call : DeviceCall) → moment ≡ 2 * n + 1
     → slice_get calls n ≡ Some call
@@ -126,7 +131,8 @@ odd_state (first ∷ calls) state bytes zero (suc zero) call is there = ap (λ (
 odd_state (first ∷ calls) state bytes zero (suc (suc moment)) call is there = absurd (omega arith)
 odd_state (first ∷ calls) state bytes (suc n) zero call is there = absurd (omega arith)
 odd_state (first ∷ calls) state bytes (suc n) (suc zero) call is there = absurd (omega arith)
-odd_state (first ∷ calls) state bytes (suc n) (suc (suc moment)) call is there = odd_state calls (after_call state first (take (count_of first) bytes)) (drop (count_of first) bytes) n moment call (omega arith) there
+odd_state (first ∷ calls) state bytes (suc n) (suc (suc moment)) call is there = odd_state calls (after_call state first (take (count_of first) bytes))
+    (drop (count_of first) bytes) n moment call (omega arith) there
 
 -- the calls in two parts
 pub count_parts : (calls : List DeviceCall) (n : ℕ) → count_all (take n calls) + count_all (drop n calls) ≡ count_all calls

@@ -2,16 +2,17 @@
 use Rattle.std.proofs.Common.{◌≡◌, ℕ, zero, suc, ◌+◌, ◌-◌, ◌<◌, ◌≤◌, List, [], ◌∷◌, ◌++◌, length, take, drop, length-take, replicate}
 use Rattle.std.proofs.Common.{get_or, refl, sym, ◌∙◌, ap, subst, arith}
 use Rattle.std.proofs.lemmas.List.{length-replicate, ext_get_or}
-use Rattle.oa_disk.specs.Disk.{HasBytesAt, Only}
+use Rattle.oa_disk.specs.Disk.{HasBytesAt}
+use Rattle.oa_disk.specs.promise.Disk.{Only, DiskHistory, contents_of, image_of, layered, IsImage, last_state, synced}
+use Rattle.oa_disk.specs.promise.Disk.{contents_after, count_all, overwritten, zeros}
 use Rattle.oa_disk.specs.declared.call.DeviceCall.{DeviceCall}
 use Rattle.oa_disk.specs.declared.call.DeviceCall.TheVariants.{Read, Write}
-use Rattle.oa_disk.specs.declared.layers.Layers.{Layers}
-use Rattle.oa_disk.specs.declared.ledger.Ledger.{Ledger}
-use Rattle.oa_disk.specs.History.{History, IsHistory, with_call, contents_of, image_of}
-use Rattle.oa_disk.specs.Layered.{layered}
-use Rattle.oa_disk.specs.Ledger.{laid, history}
+use Rattle.oa_disk.specs.declared.layers.SparseImage.{SparseImage}
+use Rattle.oa_disk.specs.declared.ledger.CallLog.{CallLog}
+use Rattle.oa_disk.specs.History.{IsHistory, with_call}
+use Rattle.oa_disk.specs.promise.CallLog.{laid, history}
 use Rattle.oa_disk.specs.Overwritten.{length-overwritten}
-use Rattle.oa_disk.specs.Replay.{AllInside, IsImage, last_state, synced, contents_after, count_all, overwritten, zeros}
+use Rattle.oa_disk.specs.Replay.{AllInside}
 use Rattle.oa_disk.specs.Replaying.{contents_size, contents_bytes}
 use Rattle.oa_disk.proofs.Steps.{get_at, replay_write, replay_other}
 
@@ -40,7 +41,8 @@ none_whole size = record {
 
 pub zeros_whole : (size : ℕ) (calls : List DeviceCall) (written : List ℕ) → calls ≡ [] → written ≡ [] → IsHistory size (layered size calls written)
 zeros_whole size calls written none_called none_written =
-    subst (λ (c : List DeviceCall). IsHistory size (layered size c written)) (sym none_called) (subst (λ (w : List ℕ). IsHistory size (layered size [] w)) (sym none_written) (none_whole size))
+    subst (λ (c : List DeviceCall). IsHistory size (layered size c written)) (sym none_called)
+    (subst (λ (w : List ℕ). IsHistory size (layered size [] w)) (sym none_written) (none_whole size))
 
 -- zeros are held by zeros
 pub zeros_hold : (size at : ℕ) (window : List ℕ) (n : ℕ) → at + n ≤ size → window ≡ replicate n zero → HasBytesAt (zeros size) at window
@@ -50,12 +52,13 @@ zeros_hold size at window n inside is = record {
   each = λ i lt. zero_at size (at + i) ∙ sym (ap (λ (l : List ℕ). get_or l i 0) is ∙ zero_at n i);
 }
 
-module _ (first : Layers) (ledger : Ledger) (calls : ledger.calls.items ≡ []) (written : ledger.written.items ≡ []) where
+module _ (first : SparseImage) (ledger : CallLog) (calls : ledger.calls.items ≡ []) (written : ledger.written.items ≡ []) where
   start_is : history first ledger ≡ record { first = laid first; calls = []; written = [] }
-  start_is = ap (λ (c : List DeviceCall). record { first = laid first; calls = c; written = ledger.written.items }) calls ∙ ap (λ (w : List ℕ). record { first = laid first; calls = []; written = w }) written
+  start_is = ap (λ (c : List DeviceCall). record { first = laid first; calls = c; written = ledger.written.items }) calls
+      ∙ ap (λ (w : List ℕ). record { first = laid first; calls = []; written = w }) written
 
   pub start_whole : IsHistory first.size (history first ledger)
-  start_whole = subst (λ (h : History). IsHistory first.size h) (sym start_is) (record {
+  start_whole = subst (λ (h : DiskHistory). IsHistory first.size h) (sym start_is) (record {
     bytes_of_first = contents_bytes first.size (layered first.size first.calls.items first.written.items) first.whole;
     size_of_first = contents_size first.size (layered first.size first.calls.items first.written.items) first.whole;
     bytes_of_all = λ i. omega arith;
@@ -67,7 +70,7 @@ module _ (first : Layers) (ledger : Ledger) (calls : ledger.calls.items ≡ []) 
   start_only c image = ext_get_or 0 c (laid first) image.size (λ i lt. image.outside i tt)
 
   pub start_settled : Only (contents_of (history first ledger)) (image_of (history first ledger))
-  start_settled = subst (λ (h : History). Only (contents_of h) (image_of h)) (sym start_is) start_only
+  start_settled = subst (λ (h : DiskHistory). Only (contents_of h) (image_of h)) (sym start_is) start_only
 
 -- one write more
 pub one_more : (size : ℕ) (calls : List DeviceCall) (written : List ℕ) (call : DeviceCall) (bytes : List ℕ) (later : List DeviceCall) (all : List ℕ)
@@ -90,7 +93,9 @@ module _ (disk : List ℕ) (calls : List DeviceCall) (written : List ℕ) (at : 
 
   pub made_end : (window : List ℕ) (behind : List DeviceCall) (rest : List ℕ) → behind ≡ [] → IsMade disk calls written behind rest at window
       → HasBytesAt (contents_after disk calls written) at window
-  made_end window behind rest none made = subst (λ (l : List ℕ). HasBytesAt l at window) (sym (ap (λ (b : List DeviceCall). (last_state (synced made.mid) b rest).contents) none) ∙ made.same) made.holds
+  made_end window behind rest none made =
+      subst (λ (l : List ℕ). HasBytesAt l at window) (sym (ap (λ (b : List DeviceCall). (last_state (synced made.mid) b rest).contents) none) ∙ made.same)
+      made.holds
 
   module _ (i from : ℕ) (lt : i < length calls) where
     pub made_write : (fits : from + count_all (drop i calls) ≤ length written) (to n : ℕ) (window new : List ℕ)
@@ -102,12 +107,14 @@ module _ (disk : List ℕ) (calls : List DeviceCall) (written : List ℕ) (at : 
     made_write fits to n window new is inside shown made =
         let bytes = take (from + n - from) (drop from written) in
         let long : length (take (from + n - from) (drop from written)) ≤ n = omega (arith, length-take (from + n - from) (drop from written)) in
-        let room : to + length (take (from + n - from) (drop from written)) ≤ length made.mid = omega (arith, long, made.size, inside i to n (get_at calls i (Write to n) lt is)) in
+        let room : to + length (take (from + n - from) (drop from written)) ≤ length made.mid =
+        omega (arith, long, made.size, inside i to n (get_at calls i (Write to n) lt is)) in
         record {
           mid = overwritten made.mid to (take (from + n - from) (drop from written));
           size = length-overwritten made.mid (take (from + n - from) (drop from written)) to room ∙ made.size;
           holds = shown made.mid room made.holds;
-          same = replay_write calls written i from lt fits to n made.mid (overwritten made.mid to (take (from + n - from) (drop from written))) is refl ∙ made.same;
+          same = replay_write calls written i from lt fits to n made.mid (overwritten made.mid to (take (from + n - from) (drop from written))) is refl
+              ∙ made.same;
         }
 
     pub made_other : (call : DeviceCall) (window : List ℕ) → get_or calls i Read ≡ call → ((to n : ℕ) → call ≡ Write to n → ⊥)

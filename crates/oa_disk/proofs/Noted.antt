@@ -8,12 +8,13 @@ use Rattle.std.proofs.lemmas.List.{get_or-take, get_or-drop, length-take-le, ext
 use Rattle.std.proofs.lemmas.List.FromFn.{length-map-range_with_len}
 use Rattle.std.proofs.lemmas.Nat.{mod_below}
 use Rattle.std.specs.List.{range_with_len}
-use Rattle.oa_disk.specs.Disk.{HasBytesAt, AllBytes, Only}
-use Rattle.oa_disk.specs.History.{IsHistory, contents_of, image_of}
+use Rattle.oa_disk.specs.Disk.{HasBytesAt}
+use Rattle.oa_disk.specs.promise.Disk.{AllBytes, Only, contents_of, image_of, IsImage, synced}
+use Rattle.oa_disk.specs.History.{IsHistory}
 use Rattle.oa_disk.specs.declared.call.DeviceCall.TheVariants.{Read}
 use Rattle.oa_disk.specs.declared.record.Record.{Record}
-use Rattle.oa_disk.specs.Record.{noted, beginning, file_bytes, history_of}
-use Rattle.oa_disk.specs.Replay.{IsImage, AllInside, synced, agrees}
+use Rattle.oa_disk.specs.Record.{noted, beginning, file_bytes, recorded_history}
+use Rattle.oa_disk.specs.Replay.{AllInside, agrees}
 
 -- the parts of what a call has noted
 module _ {E : Type 0} where
@@ -87,7 +88,7 @@ module _ (held : ℕ → ℕ) (size : ℕ) where
   no_call : AllInside size []
   no_call k at count is = absurd (cc)
 
-  pub beginning_whole : IsHistory size (history_of (beginning held size))
+  pub beginning_whole : IsHistory size (recorded_history (beginning held size))
   beginning_whole = record {
     bytes_of_first = all_bytes (range_with_len 0 size);
     size_of_first = length-map-range_with_len (λ i. held i % 256) 0 size;
@@ -96,5 +97,6 @@ module _ (held : ℕ → ℕ) (size : ℕ) where
     inside = no_call;
   }
 
-  pub beginning_settled : (r : Record) → r ≡ beginning held size → Only (contents_of (history_of r)) (image_of (history_of r))
-  beginning_settled r is = subst (λ (x : Record). Only (contents_of (history_of x)) (image_of (history_of x))) (sym is) (first_only (file_bytes held size))
+  pub beginning_settled : (r : Record) → r ≡ beginning held size → Only (contents_of (recorded_history r)) (image_of (recorded_history r))
+  beginning_settled r is = subst (λ (x : Record). Only (contents_of (recorded_history x)) (image_of (recorded_history x))) (sym is)
+      (first_only (file_bytes held size))

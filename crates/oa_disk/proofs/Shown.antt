@@ -5,7 +5,7 @@ use Rattle.std.proofs.lemmas.Bool.{cases_lt}
 use Rattle.std.proofs.lemmas.List.{length-take-le, get_or-take, get_or-drop}
 use Rattle.oa_disk.specs.Disk.{HasBytesAt}
 use Rattle.oa_disk.specs.Overwritten.{length-overwritten, overwritten_below, overwritten_in, overwritten_above}
-use Rattle.oa_disk.specs.Replay.{overwritten}
+use Rattle.oa_disk.specs.promise.Disk.{overwritten}
 
 module _ (disk window bytes : List ℕ) (at to : ℕ) (inside : to + length bytes ≤ length disk) (holds : HasBytesAt disk at window) (low high : ℕ)
     (is_low : low ≡ max to at) (is_high : high ≡ min (to + length bytes) (at + length window)) where
@@ -63,6 +63,9 @@ module _ (disk window bytes : List ℕ) (at to : ℕ) (inside : to + length byte
     pub shown_in : (new : List ℕ) → new ≡ overwritten window (low - at) (take (high - to - (low - to)) (drop (low - to) bytes))
         → HasBytesAt (overwritten disk to bytes) at new
     shown_in new is = record {
-      within = omega (arith, long, holds.within, ap length is, length-overwritten window (take (high - to - (low - to)) (drop (low - to) bytes)) (low - at) fits);
-      each = λ i lt. at_each i (omega (arith, lt, ap length is, length-overwritten window (take (high - to - (low - to)) (drop (low - to) bytes)) (low - at) fits)) (cases_lt (at + i) low) (cases_lt (at + i) high) ∙ ap (λ (l : List ℕ). get_or l i 0) (sym is);
+      within =
+          omega (arith, long, holds.within, ap length is, length-overwritten window (take (high - to - (low - to)) (drop (low - to) bytes)) (low - at) fits);
+      each =
+          λ i lt. at_each i (omega (arith, lt, ap length is, length-overwritten window (take (high - to - (low - to)) (drop (low - to) bytes)) (low - at) fits))
+          (cases_lt (at + i) low) (cases_lt (at + i) high) ∙ ap (λ (l : List ℕ). get_or l i 0) (sym is);
     }

@@ -6,8 +6,8 @@ use Rattle.oa_disk.specs.declared.call.DeviceCall.{DeviceCall}
 use Rattle.oa_disk.specs.declared.call.DeviceCall.TheVariants.{Read, Write, Sync}
 use Rattle.oa_disk.specs.declared.crash.Tear.{Tear}
 use Rattle.oa_disk.specs.declared.crash.Tear.TheVariants.{Lost, Kept, Filled, Cut}
-use Rattle.oa_disk.specs.Replay.{DiskState, after_call, last_state, synced, count_of, count_all, overwritten}
-use Rattle.oa_disk.specs.Tear.{torn, tear_behind, torn_call, torn_all}
+use Rattle.oa_disk.specs.promise.Disk.{DiskState, after_call, last_state, synced, count_of, count_all, overwritten}
+use Rattle.oa_disk.specs.promise.Disk.{torn, tear_behind, torn_call, torn_all}
 use Rattle.oa_disk.proofs.Calls.{same_contents}
 
 pub get_at : (calls : List DeviceCall) (i : ℕ) (call : DeviceCall) → i < length calls → get_or calls i Read ≡ call → slice_get calls i ≡ Some call
@@ -24,14 +24,16 @@ module _ (calls : List DeviceCall) (written : List ℕ) (i from : ℕ) (lt : i <
       (drop (i + 1) calls) (drop (from + count_of call) written)
   state_step s call is =
       ap (λ (l : List DeviceCall). last_state s l (drop from written)) (rest call is)
-      ∙ ap (λ (w : List ℕ). last_state (after_call s call (take (count_of call) (drop from written))) (drop (i + 1) calls) w) (drop-drop (count_of call) from written)
+      ∙ ap (λ (w : List ℕ). last_state (after_call s call (take (count_of call) (drop from written))) (drop (i + 1) calls) w)
+      (drop-drop (count_of call) from written)
 
   torn_step : (tear : Tear) (disk : List ℕ) (call : DeviceCall) → get_or calls i Read ≡ call
       → torn_all tear disk (drop i calls) (drop from written) ≡ torn_all (tear_behind tear (count_of call))
       (torn_call tear disk call (take (count_of call) (drop from written))) (drop (i + 1) calls) (drop (from + count_of call) written)
   torn_step tear disk call is =
       ap (λ (l : List DeviceCall). torn_all tear disk l (drop from written)) (rest call is)
-      ∙ ap (λ (w : List ℕ). torn_all (tear_behind tear (count_of call)) (torn_call tear disk call (take (count_of call) (drop from written))) (drop (i + 1) calls) w) (drop-drop (count_of call) from written)
+      ∙ ap (λ (w : List ℕ). torn_all (tear_behind tear (count_of call)) (torn_call tear disk call (take (count_of call) (drop from written)))
+      (drop (i + 1) calls) w) (drop-drop (count_of call) from written)
 
   pub count_step : (call : DeviceCall) (next : ℕ) → get_or calls i Read ≡ call → next ≡ from + count_of call
       → from + count_all (drop i calls) ≡ next + count_all (drop (i + 1) calls)
@@ -68,8 +70,10 @@ module _ (calls : List DeviceCall) (written : List ℕ) (i from : ℕ) (lt : i <
         → torn_all rest new (drop (i + 1) calls) (drop (from + n) written) ≡ torn_all tear old (drop i calls) (drop from written)
     torn_write at n tear later old new is is_new is_rest =
         let m_is : from + n - from ≡ n = omega arith in
-        ap (λ (d : List ℕ). torn_all later d (drop (i + 1) calls) (drop (from + n) written)) (is_new ∙ ap (λ (k : ℕ). torn tear old at (take k (drop from written))) m_is)
-        ∙ ap (λ (t : Tear). torn_all t (torn tear old at (take n (drop from written))) (drop (i + 1) calls) (drop (from + n) written)) (is_rest ∙ ap (λ (k : ℕ). tear_behind tear k) (long at n (from + n - from) is m_is))
+        ap (λ (d : List ℕ). torn_all later d (drop (i + 1) calls) (drop (from + n) written))
+        (is_new ∙ ap (λ (k : ℕ). torn tear old at (take k (drop from written))) m_is)
+        ∙ ap (λ (t : Tear). torn_all t (torn tear old at (take n (drop from written))) (drop (i + 1) calls) (drop (from + n) written))
+        (is_rest ∙ ap (λ (k : ℕ). tear_behind tear k) (long at n (from + n - from) is m_is))
         ∙ sym (torn_step tear old (Write at n) is)
 
   zero_more : drop (from + 0) written ≡ drop from written
@@ -79,9 +83,11 @@ module _ (calls : List DeviceCall) (written : List ℕ) (i from : ℕ) (lt : i <
   pub replay_other : (call : DeviceCall) (disk : List ℕ) → get_or calls i Read ≡ call → ((at n : ℕ) → call ≡ Write at n → ⊥)
       → (last_state (synced disk) (drop (i + 1) calls) (drop from written)).contents ≡ (last_state (synced disk) (drop i calls)
       (drop from written)).contents
-  replay_other Read disk is none = ap (λ (w : List ℕ). (last_state (synced disk) (drop (i + 1) calls) w).contents) (sym zero_more) ∙ sym (ap (λ (t : DiskState). t.contents) (state_step (synced disk) Read is))
+  replay_other Read disk is none = ap (λ (w : List ℕ). (last_state (synced disk) (drop (i + 1) calls) w).contents) (sym zero_more)
+      ∙ sym (ap (λ (t : DiskState). t.contents) (state_step (synced disk) Read is))
   replay_other (Write at n) disk is none = absurd (none at n refl)
-  replay_other Sync disk is none = ap (λ (w : List ℕ). (last_state (synced disk) (drop (i + 1) calls) w).contents) (sym zero_more) ∙ sym (ap (λ (t : DiskState). t.contents) (state_step (synced disk) Sync is))
+  replay_other Sync disk is none = ap (λ (w : List ℕ). (last_state (synced disk) (drop (i + 1) calls) w).contents) (sym zero_more)
+      ∙ sym (ap (λ (t : DiskState). t.contents) (state_step (synced disk) Sync is))
 
   rest_of_none : (tear : Tear) → tear_behind tear 0 ≡ tear
   rest_of_none Lost = refl

@@ -1,6 +1,7 @@
 -- What stays where bytes and their switch are written.
 use Rattle.std.proofs.Common.{◌≡◌, ◌⊎◌, ℕ, ◌+◌, ◌<◌, ◌≤◌, List, length, get_or, ◌∙◌, arith, ⊎_elim}
-use Rattle.oa_disk.specs.Disk.{HasBytesAt, Torn}
+use Rattle.oa_disk.specs.Disk.{HasBytesAt}
+use Rattle.oa_disk.specs.promise.Disk.{Torn}
 use Rattle.oa_disk.specs.Switch.{IsSwitching}
 use Rattle.oa_disk.proofs.Ranges.{Torn_trans, Torn_within, Holds_above, Holds_below}
 

@@ -3,7 +3,8 @@ use Rattle.std.specs.Prelude.{◌≡◌, ℕ, ◌+◌, ◌*◌, ◌≤◌, IsTru
 use Rattle.oa_disk.specs.declared.disk.DeviceFault.{DeviceFault}
 use Rattle.oa_disk.specs.declared.disk.DeviceFault.TheVariants.{Write}
 use Rattle.oa_disk.specs.declared.disk.Disk.{Ghosts}
-use Rattle.oa_disk.specs.Disk.{CountsFailures, Follows, HasCounted, LeavesStep, NothingPending}
+use Rattle.oa_disk.specs.promise.Disk.{CountsFailures, Follows, HasCounted, NothingPending}
+use Rattle.oa_disk.specs.Disk.{LeavesStep}
 
 -- At most `most` writes and syncs, which end with the first failure.
 pub record AfterWrites {D T : Type 0} (g : Ghosts D) (most : ℕ) (old new : D)

@@ -1,11 +1,10 @@
 -- The members of the trait for a FileDisk.
 use Rattle.std.specs.Prelude.{◌≡◌, ◌-◌, ◌++◌, ℕ, IsTrue}
-use Rattle.oa_disk.specs.Disk.{NothingPending}
+use Rattle.oa_disk.specs.promise.Disk.{NothingPending, zeros}
 use Rattle.oa_disk.specs.declared.disk.Disk.{Ghosts}
 use Rattle.oa_disk.specs.declared.file.FileDisk.{FileDisk}
 use Rattle.oa_disk.specs.declared.record.Record.{Record}
 use Rattle.oa_disk.specs.Record.{beginning}
-use Rattle.oa_disk.specs.Replay.{zeros}
 
 abbrev pub file_size : FileDisk → ℕ
 file_size disk = disk.size
@@ -14,8 +13,8 @@ abbrev pub failures_of : FileDisk → ℕ
 failures_of disk = disk.failures
 
 -- its log: the calls with their results
-abbrev pub record_of : FileDisk → Record
-record_of disk = disk.history
+abbrev pub log_of : FileDisk → Record
+log_of disk = disk.history
 
 -- no call was made, and the log begins with this byte at each place
 pub record HasMetNoCall (held : ℕ → ℕ) (disk : FileDisk) : Type 0 where

@@ -5,8 +5,7 @@ pub mod File
 pub mod Folders
 pub mod Fuse
 pub mod History
-pub mod Layered
-pub mod Ledger
+pub mod CallLog
 pub mod Memory
 pub mod Moments
 pub mod Overwritten
@@ -14,4 +13,4 @@ pub mod Record
 pub mod Replay
 pub mod Replaying
 pub mod Switch
-pub mod Tear
+pub mod promise

@@ -3,8 +3,8 @@ use Rattle.std.specs.Prelude.{ℕ, ◌-◌, ◌%◌, true, ◌&&◌, List, [], �
 use Rattle.std.specs.List.{range_with_len}
 use Rattle.oa_disk.specs.declared.call.DeviceCall.{DeviceCall}
 use Rattle.oa_disk.specs.declared.record.Record.{Record}
-use Rattle.oa_disk.specs.Replay.{agrees, contents_after, zeros}
-use Rattle.oa_disk.specs.History.{History}
+use Rattle.oa_disk.specs.Replay.{agrees}
+use Rattle.oa_disk.specs.promise.Disk.{contents_after, zeros, DiskHistory}
 
 -- the bytes of a file of that size, given by a number for each place; of a number above 255 the lowest eight bits
 -- count
@@ -36,5 +36,5 @@ lengthened before size = record {
 }
 
 -- the history: the log without what the reads returned
-abbrev pub history_of : Record → History
-history_of r = record { first = r.first; calls = r.calls; written = r.written }
+abbrev pub recorded_history : Record → DiskHistory
+recorded_history r = record { first = r.first; calls = r.calls; written = r.written }

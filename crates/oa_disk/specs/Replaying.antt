@@ -2,12 +2,12 @@
 use Rattle.std.proofs.Common.{◌≡◌, inl, inr, ℕ, zero, suc, ◌*◌, ◌≤◌, List, [], ◌∷◌, length, take, drop, refl, sym, ◌∙◌}
 use Rattle.std.proofs.Common.{ap, subst, arith, length-drop}
 use Rattle.std.proofs.lemmas.List.{length-take-le}
-use Rattle.oa_disk.specs.Disk.{AllBytes}
+use Rattle.oa_disk.specs.promise.Disk.{AllBytes, DiskState, IsImage, last_state, after_call, synced, count_of}
+use Rattle.oa_disk.specs.promise.Disk.{count_all, DiskHistory, contents_of, image_of, moment_of}
 use Rattle.oa_disk.specs.declared.call.DeviceCall.{DeviceCall}
 use Rattle.oa_disk.specs.declared.call.DeviceCall.TheVariants.{Read, Write, Sync}
-use Rattle.oa_disk.specs.Replay.{DiskState, IsImage, IsImageOfSome, AllInside, states}
-use Rattle.oa_disk.specs.Replay.{last_state, during_call, after_call, synced, count_of, count_all}
-use Rattle.oa_disk.specs.History.{History, IsHistory, contents_of, image_of, moment_of, image_since_of}
+use Rattle.oa_disk.specs.Replay.{IsImageOfSome, AllInside, states, during_call}
+use Rattle.oa_disk.specs.History.{IsHistory, image_since_of}
 use Rattle.oa_disk.specs.Overwritten.{take_bytes, drop_bytes, overwritten_bytes, length-overwritten}
 
 pub length-states : (calls : List DeviceCall) (state : DiskState) (bytes : List ℕ)
@@ -105,7 +105,7 @@ some_size (call ∷ calls) state bytes c size is inside fits (inr (inr some)) =
     (drop (count_of call) bytes) c size (one_size state call calls bytes size is inside fits) (λ k. inside (suc k))
     (omega (arith, length-drop (count_of call) bytes)) some
 
-module _ (size : ℕ) (h : History) (whole : IsHistory size h) where
+module _ (size : ℕ) (h : DiskHistory) (whole : IsHistory size h) where
   pub contents_size : length (contents_of h) ≡ size
   contents_size =
       state_size h.calls (synced h.first) h.written size whole.size_of_first whole.inside
@@ -126,7 +126,7 @@ module _ (size : ℕ) (h : History) (whole : IsHistory size h) where
       (omega (arith, whole.count_of_all))
       (since_first (synced h.first ∷ states (synced h.first) h.calls h.written) c t left)
 
-module _ (h : History) where
+module _ (h : DiskHistory) where
   pub counts_now : (t : ℕ) (c : List ℕ) → t ≤ moment_of h → image_of h c → image_since_of h t c
   counts_now t c le is = counts_last h.calls (synced h.first) h.written c t le is
 

@@ -1,7 +1,8 @@
 -- Bytes that become valid by one byte, the switch: a batch of the journal with its gate, a bank with the selector.
 -- This project's choice.
 use Rattle.std.specs.Prelude.{◌≡◌, ◌⊎◌, ℕ, List, length, get_or}
-use Rattle.oa_disk.specs.Disk.{HasBytesAt, Torn}
+use Rattle.oa_disk.specs.Disk.{HasBytesAt}
+use Rattle.oa_disk.specs.promise.Disk.{Torn}
 
 -- the bytes were written whole, and then the switch, which may hold any byte
 pub record IsSwitching (at : ℕ) (bytes : List ℕ) (switch : ℕ) (old new : List ℕ) : Type 0 where

@@ -5,7 +5,7 @@
 pub enum DeviceCall {
     /// A read.
     Read,
-    /// A write: the place of its first byte, and how many bytes it wrote.
+    /// A write: the place of its first byte, and the number of its bytes.
     Write(usize, usize),
     /// A sync.
     Sync,

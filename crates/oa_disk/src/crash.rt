@@ -1,11 +1,12 @@
 //! The bytes that a crash leaves, computed from the calls of a disk and the bytes that they wrote.
 ghost use Rattle.std.specs.Prelude.{◌≡◌, ◌+◌, ◌*◌, ◌<◌, ◌≤◌, length, OnOk, IfOk};
-ghost use Rattle.oa_disk.specs.Ledger.{laid};
-ghost use Rattle.oa_disk.specs.Replay.{AllInside, contents_after, count_all};
-ghost use Rattle.oa_disk.specs.Tear.{torn, tear_behind, torn_all, IsLastSync, IsTorn};
+ghost use Rattle.oa_disk.specs.promise.CallLog.{laid};
+ghost use Rattle.oa_disk.specs.Replay.{AllInside};
+ghost use Rattle.oa_disk.specs.promise.Disk.{contents_after, count_all, torn, tear_behind, torn_all, IsLastSync};
+ghost use Rattle.oa_disk.specs.promise.Disk.{IsTorn};
 
 use crate::DeviceCall;
-use crate::layers::Layers;
+use crate::layers::SparseImage;
 use std::alloc::{AllocError, Global};
 
 /// How a crash tears the writes that no sync has brought to the device.
@@ -21,10 +22,11 @@ pub enum Tear {
     Cut(u64),
 }
 
-/// Tears the range of one write, and returns the tear for the writes after it: a cut has fewer bytes left.
+/// Tears the range of one write of `bytes` at `at`, and sets `tear` for the writes after it: a cut
+/// has fewer bytes left. Err: an allocation failed.
 fn tear_range(
     alloc: Global,
-    disk: &mut Layers,
+    disk: &mut SparseImage,
     at: usize,
     bytes: &[u8],
     tear: &mut Tear,
@@ -49,7 +51,7 @@ fn tear_range(
     }
 }
 
-/// Returns how many calls there are up to and including the last sync; 0 if there is no sync.
+/// Returns the number of calls up to and including the last sync; 0 if there is no sync.
 fn last_sync(calls: &[DeviceCall]) -> usize
     ensures { IsLastSync calls.now result }
 {
@@ -62,8 +64,9 @@ fn last_sync(calls: &[DeviceCall]) -> usize
     end
 }
 
-/// Replays the calls on the disk, and returns how many bytes they wrote.
-fn replay(disk: &mut Layers, calls: &[DeviceCall], written: &[u8]) -> Result<usize, AllocError>
+/// Replays the calls on the disk, whose writes wrote `written`, and returns how many bytes they
+/// wrote. Err: an allocation failed.
+fn replay(disk: &mut SparseImage, calls: &[DeviceCall], written: &[u8]) -> Result<usize, AllocError>
     requires inside { AllInside disk.old.size calls.now }
     requires written { count_all calls.now ≤ length written.now }
     ensures contents { OnOk result (laid disk.new ≡ contents_after (laid disk.old) calls.now written.now) }
@@ -80,10 +83,10 @@ fn replay(disk: &mut Layers, calls: &[DeviceCall], written: &[u8]) -> Result<usi
     Ok(from)
 }
 
-/// Replays the calls on the disk with their writes torn.
+/// Replays the calls on the disk with their writes torn. Err: an allocation failed.
 fn tear_all(
     alloc: Global,
-    disk: &mut Layers,
+    disk: &mut SparseImage,
     calls: &[DeviceCall],
     written: &[u8],
     tear: Tear,
@@ -104,10 +107,11 @@ fn tear_all(
     Ok(())
 }
 
-/// Replays the calls up to a point in time, and tears the writes after the last sync before it.
+/// Replays the calls up to the point in time `moment`, and tears the writes after the last sync
+/// before it. `moment` is `2k - 1` within call k, and `2k` after it. Err: an allocation failed.
 pub(crate) fn leave_at(
     alloc: Global,
-    disk: &mut Layers,
+    disk: &mut SparseImage,
     calls: &[DeviceCall],
     written: &[u8],
     moment: u64,

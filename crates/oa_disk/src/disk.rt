@@ -1,6 +1,7 @@
 //! A disk as a store sees it: the bytes that a read returns, and the bytes that a crash may leave.
 ghost use Rattle.std.specs.Prelude.{◌≡◌, ◌+◌, ◌-◌, ◌^◌, ◌≤◌, List, ℕ, Bool, IsTrue, length, OnOk, OnErr};
-ghost use Rattle.oa_disk.specs.Disk.{FailsAs, HasBytesAt, ReadsHonestly, Torn, Reaches, Stays, WritesUnsynced, Syncs, TakesTime};
+ghost use Rattle.oa_disk.specs.promise.Disk.{FailsAs, Torn, WritesUnsynced, Syncs, TakesTime};
+ghost use Rattle.oa_disk.specs.Disk.{HasBytesAt, ReadsHonestly, Reaches, Stays};
 
 use thiserror::Error;
 
@@ -17,8 +18,8 @@ pub enum DeviceFault {
 
 /// A row of bytes that survives a crash, with a clock. Places are counted in bytes from 0.
 ///
-/// Between two syncs, each written range may hold any bytes after a crash; bytes outside these ranges stay as they
-/// are. Everything stated of contents and images is stated of an honest disk.
+/// Between two syncs, each written range may hold any bytes after a crash; bytes outside these
+/// ranges stay as they are. Everything stated of contents and images is stated of an honest disk.
 pub trait Disk {
     /// The number of bytes. It never changes.
     ghost size_of: { Self → ℕ };
@@ -26,8 +27,8 @@ pub trait Disk {
     /// The number of failed calls, at most the greatest u64.
     ghost failures_of: { Self → ℕ };
 
-    /// Whether the disk keeps the rules below. No call changes this, except that a successful read may return bytes
-    /// that show that the disk has broken them.
+    /// Whether the disk keeps the rules below. No call changes this, except that a successful read
+    /// may return bytes that show that the disk has broken them.
     ghost is_honest: { Self → Bool };
 
     /// The bytes that a read returns.
@@ -36,23 +37,25 @@ pub trait Disk {
     /// The contents that a crash at this point in time may leave.
     ghost image: { Self → List ℕ → Type 0 };
 
-    /// The clock, which never goes back. A call advances it by at most two: one point in time within the call, one
-    /// after it.
+    /// The clock, which never goes back. A call advances it by at most two: one point in time
+    /// within the call, one after it.
     ghost moment: { Self → ℕ };
 
-    /// The contents that a crash at some point in time from the given one on might have left, within a call or
-    /// between two.
+    /// The contents that a crash at some point in time from the given one on might have left,
+    /// within a call or between two.
     ghost image_since: { Self → ℕ → List ℕ → Type 0 };
 
     /// Returns the number of bytes.
     fn size(&self) -> u64
         ensures { result ≡ size_of self.now };
 
-    /// Returns how many calls have failed. The count stays at the greatest u64 once it is reached.
+    /// Returns the number of calls that have failed. It stays at the greatest u64 once it is
+    /// reached.
     fn failures(&self) -> u64
         ensures { result ≡ failures_of self.now };
 
-    /// Fills the buffer with the bytes from `at` on. After an `Err` the buffer may hold anything.
+    /// Fills the buffer with the bytes from byte `at` on. Err: the device failed, and the buffer
+    /// may hold anything.
     fn read_at(&mut self, at: u64, bytes: &mut [u8]) -> Result<(), DeviceFault>
         requires { at + length bytes.old ≤ size_of self.old }
         ensures read { OnOk result (IsTrue (is_honest self.new) → HasBytesAt (contents self.old) at bytes.new) }
@@ -62,8 +65,8 @@ pub trait Disk {
         ensures honest { ReadsHonestly (contents self.old) at bytes.new (is_honest self.old) (is_honest self.new) result }
         ensures fails { FailsAs DeviceFault.Read (failures_of self.old) (failures_of self.new) result };
 
-    /// Writes the bytes from `at` on. Until a sync succeeds, a crash may leave any bytes in that range, whether the
-    /// write succeeded or not.
+    /// Writes the bytes from byte `at` on. Until a sync succeeds, a crash may leave any bytes in
+    /// that range, whether the write succeeded or not. Err: the device failed.
     fn write_at(&mut self, at: u64, bytes: &[u8]) -> Result<(), DeviceFault>
         requires { at + length bytes.now ≤ size_of self.old }
         ensures written { OnOk result (IsTrue (is_honest self.old) → HasBytesAt (contents self.new) at bytes.now) }
@@ -76,8 +79,8 @@ pub trait Disk {
         ensures honest { is_honest self.new ≡ is_honest self.old }
         ensures fails { FailsAs DeviceFault.Write (failures_of self.old) (failures_of self.new) result };
 
-    /// Brings all written bytes to the device. After `Ok`, a crash leaves what a read returns. After an `Err`, what a
-    /// read returns is one of the images, and nothing more is known.
+    /// Brings all written bytes to the device. After `Ok`, a crash leaves what a read returns.
+    /// After an `Err`, what a read returns is one of the images, and nothing more is known.
     fn sync(&mut self) -> Result<(), DeviceFault>
         ensures syncs { OnOk result (IsTrue (is_honest self.old) → Syncs (contents self.old) (contents self.new) (image self.new)) }
         ensures images { IsTrue (is_honest self.old) → (c : List ℕ) → image self.new c → image self.old c }

@@ -1,13 +1,14 @@
 //! A disk that fails from some call on.
 ghost use Rattle.std.specs.Prelude.{◌≡◌, ◌+◌, ◌-◌, ◌^◌, ◌<◌, ◌≤◌, ◌↔◌, List, ℕ, length, IsTrue, OnOk, OnErr, IfErr, IsErr};
 ghost use Rattle.oa_disk.specs.Counting.{min_below};
-ghost use Rattle.oa_disk.specs.Disk.{CountsFailures, FailsAs, HasBytesAt, ReadsHonestly, Torn};
-ghost use Rattle.oa_disk.specs.Disk.{Reaches, Stays, WritesUnsynced, Syncs, TakesTime};
+ghost use Rattle.oa_disk.specs.promise.Disk.{CountsFailures, FailsAs, Torn, WritesUnsynced, Syncs, TakesTime};
+ghost use Rattle.oa_disk.specs.Disk.{HasBytesAt, ReadsHonestly, Reaches, Stays};
 ghost use Rattle.oa_disk.specs.Fuse.{failures_with};
 
 use crate::{DeviceFault, Disk};
 
-/// A disk that passes a number of calls on to another disk, and then fails every call without passing it on.
+/// A disk that passes a number of calls on to another disk, and then fails every call without
+/// passing it on.
 #[derive(Drop)]
 pub struct FuseDisk<D: Disk> {
     disk: D,
@@ -15,6 +16,8 @@ pub struct FuseDisk<D: Disk> {
     refused: u64,
 }
 
+/// Counts one call. Err: no call is left; the given fault is returned, and a refused call is
+/// counted.
 fn spend(calls_left: &mut u64, refused: &mut u64, fault: DeviceFault) -> Result<(), DeviceFault>
     ensures blown { IsErr result ↔ (calls_left.old ≡ 0) }
     ensures spent { calls_left.new ≡ calls_left.old - 1 }
@@ -31,11 +34,12 @@ fn spend(calls_left: &mut u64, refused: &mut u64, fault: DeviceFault) -> Result<
 }
 
 impl<D: Disk> FuseDisk<D> {
-    ghost use Rattle.oa_disk.specs.Fuse.{inner_of, calls_left_of, refused_of, ShowsAllOf};
+    ghost use Rattle.oa_disk.specs.promise.Fuse.{inner_of, calls_left_of};
+    ghost use Rattle.oa_disk.specs.Fuse.{refused_of, ShowsAllOf};
 
-    /// Makes a disk that passes on the calls before call number `first_failing`, and fails each one from there on.
-    /// Reads, writes and syncs are calls, numbered from 1. The new disk is as honest as `disk`, and has its contents,
-    /// images and failures.
+    /// Makes a disk that passes on the calls before call number `first_failing`, and fails each one
+    /// from there on. Reads, writes and syncs are calls, numbered from 1. The new disk is as honest
+    /// as `disk`, and has its contents, images and failures.
     pub fn new(disk: D, first_failing: u64) -> FuseDisk<D>
         ensures disk { inner_of result ≡ disk }
         ensures calls { calls_left_of result ≡ first_failing - 1 }
@@ -62,8 +66,9 @@ impl<D: Disk> FuseDisk<D> {
     }
 }
 
-/// Each call has the clauses of the trait, and one more. While calls are left, each takes one of them and is passed
-/// on once, so the inner clock advances by at most two. After that, a call fails and the inner disk does not change.
+/// Each call has the clauses of the trait, and one more. While calls are left, each takes one of
+/// them and is passed on once, so the inner clock advances by at most two. After that, a call fails
+/// and the inner disk does not change.
 impl<D: Disk> Disk for FuseDisk<D> {
     ghost use Rattle.oa_disk.specs.Fuse.{KeepsKind, SpendsFuse};
 

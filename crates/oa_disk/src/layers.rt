@@ -2,15 +2,16 @@
 ghost use Rattle.std.specs.Prelude.{◌≡◌, ℕ, ◌+◌, ◌-◌, ◌^◌, ◌<◌, ◌≤◌, List, length, replicate, OnOk, IfOk};
 ghost use Rattle.oa_disk.specs.Disk.{HasBytesAt};
 ghost use Rattle.oa_disk.specs.History.{IsHistory};
-ghost use Rattle.oa_disk.specs.Layered.{layered};
-ghost use Rattle.oa_disk.specs.Replay.{AllInside, contents_after, count_all, overwritten, zeros};
+ghost use Rattle.oa_disk.specs.promise.Disk.{layered, contents_after, count_all, overwritten, zeros};
+ghost use Rattle.oa_disk.specs.Replay.{AllInside};
 
 use crate::DeviceCall;
 use std::alloc::{AllocError, Global};
 
 /// A sparse image: zeros, with writes over them, later ones on top.
 #[derive(Drop)]
-pub struct Layers {
+pub struct SparseImage {
+    /// The size of the image in bytes.
     pub size: usize,
     /// The writes.
     pub calls: Vec<DeviceCall>,
@@ -20,33 +21,35 @@ pub struct Layers {
     pub ghost whole: { IsHistory size (layered size calls.items written.items) },
 }
 
-impl Layers {
-    ghost use Rattle.oa_disk.specs.Ledger.{laid};
+impl SparseImage {
+    ghost use Rattle.oa_disk.specs.promise.CallLog.{laid};
 
     /// Makes an image of `size` zeros, without allocating.
-    pub(crate) fn new(alloc: Global, size: usize) -> Layers
+    pub(crate) fn new(alloc: Global, size: usize) -> SparseImage
         ensures bytes { laid result ≡ zeros size }
         ensures size { result.size ≡ size }
     {
-        Layers {
+        SparseImage {
             size,
             calls: Vec::new(alloc),
             written: Vec::new(alloc),
         }
     }
 
-    pub(crate) fn copy(&self, alloc: Global) -> Result<Layers, AllocError>
+    /// Returns a copy. Err: an allocation failed.
+    pub(crate) fn copy(&self, alloc: Global) -> Result<SparseImage, AllocError>
         ensures bytes { IfOk result (λ copy. laid copy ≡ laid self.now) }
         ensures size { IfOk result (λ copy. copy.size ≡ self.now.size) }
     {
-        Ok(Layers {
+        Ok(SparseImage {
             size: self.size,
             calls: self.calls.to_vec(alloc)?,
             written: self.written.to_vec(alloc)?,
         })
     }
 
-    /// Adds a write of these bytes at `at`. Err: an allocation failed, and nothing changed.
+    /// Adds a write of these bytes from byte `at` on. Err: an allocation failed, and nothing
+    /// changed.
     pub(crate) fn put(&mut self, at: usize, bytes: &[u8]) -> Result<(), AllocError>
         requires { at + length bytes.now ≤ self.old.size }
         ensures bytes { OnOk result (laid self.new ≡ overwritten (laid self.old) at bytes.now) }
@@ -58,7 +61,7 @@ impl Layers {
         Ok(())
     }
 
-    /// Fills the buffer with the bytes from `at` on.
+    /// Fills the buffer with the bytes of the image from byte `at` on.
     pub(crate) fn give(&self, at: usize, bytes: &mut [u8])
         requires { at + length bytes.old ≤ self.now.size }
         ensures bytes { HasBytesAt (laid self.now) at bytes.new }
@@ -69,13 +72,14 @@ impl Layers {
     }
 }
 
+/// Fills the bytes with 0.
 fn clear(bytes: &mut [u8])
     ensures { bytes.new ≡ replicate (length bytes.old) 0 }
 {
     bytes.fill(0);
 }
 
-/// Copies the bytes to place `at` of the window.
+/// Copies the bytes to the window, from its byte `at` on.
 fn put(window: &mut [u8], at: usize, bytes: &[u8])
     requires { at + length bytes.now ≤ length window.old }
     ensures bytes { window.new ≡ overwritten window.old at bytes.now }
@@ -84,7 +88,8 @@ fn put(window: &mut [u8], at: usize, bytes: &[u8])
     window[at..at + bytes.len()].copy_from_slice(bytes);
 }
 
-/// Applies a write at place `to` of a disk to the window, which shows the disk from place `at` on.
+/// Applies a write of these bytes at byte `to` of a disk to the window, which shows the disk from
+/// byte `at` on.
 fn show(window: &mut [u8], at: usize, to: usize, bytes: &[u8])
     requires window { at + length window.old < 2 ^ 64 }
     requires bytes { to + length bytes.now < 2 ^ 64 }
@@ -99,7 +104,8 @@ fn show(window: &mut [u8], at: usize, to: usize, bytes: &[u8])
     }
 }
 
-/// Applies the calls to the window, which shows the disk from place `at` on.
+/// Applies the writes among the calls to the window, which shows the disk from byte `at` on.
+/// `written` is what they wrote, one after the other.
 pub(crate) fn overlay(window: &mut [u8], at: usize, calls: &[DeviceCall], written: &[u8])
     requires window { at + length window.old < 2 ^ 64 }
     requires inside { AllInside (2 ^ 64 - 1) calls.now }

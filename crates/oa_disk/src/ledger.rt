@@ -4,15 +4,19 @@ ghost use Rattle.std.specs.Prelude.{◌≤◌, length, vec_capacity, IfOk, ◌^�
 use crate::{DeviceCall, DeviceFault};
 use std::alloc::{AllocError, Global};
 
-/// A log of bounded size: at most a number of calls, and of bytes written by them. Calls above the bounds are only
-/// counted.
+/// A bounded log of disk calls: at most `most_calls`, with at most `most_bytes` written by them
+/// together. A further call fails, and is only counted.
 #[derive(Drop)]
-pub struct Ledger {
+pub struct CallLog {
+    /// The calls, in order.
     pub calls: Vec<DeviceCall>,
     /// The bytes of all writes, one after the other.
     pub written: Vec<u8>,
+    /// The greatest number of calls.
     pub most_calls: usize,
+    /// The greatest number of written bytes.
     pub most_bytes: usize,
+    /// The number of calls that have failed, up to the greatest u64.
     pub failures: u64,
     pub ghost room_for_calls: { most_calls ≤ vec_capacity calls },
     pub ghost room_for_bytes: { most_bytes ≤ vec_capacity written },
@@ -21,18 +25,19 @@ pub struct Ledger {
     pub ghost counted: { failures < 2 ^ 64 },
 }
 
-impl Ledger {
-    ghost use Rattle.oa_disk.specs.Ledger.{Enters, IsEmpty};
+impl CallLog {
+    ghost use Rattle.oa_disk.specs.CallLog.{Enters, IsEmpty};
 
-    /// Makes an empty log and reserves its memory. Err: an allocation failed.
+    /// Makes an empty log of at most `most_calls` calls, which write at most `most_bytes` bytes
+    /// together, and reserves its memory. Err: an allocation failed.
     pub(crate) fn new(
         alloc: Global,
         most_calls: usize,
         most_bytes: usize,
-    ) -> Result<Ledger, AllocError>
+    ) -> Result<CallLog, AllocError>
         ensures { IfOk result (IsEmpty most_calls most_bytes) }
     {
-        Ok(Ledger {
+        Ok(CallLog {
             calls: Vec::with_capacity(alloc, most_calls)?,
             written: Vec::with_capacity(alloc, most_bytes)?,
             most_calls,
@@ -41,8 +46,8 @@ impl Ledger {
         })
     }
 
-    /// Logs a call and the bytes that it writes, without allocating. If the log is full, it counts the call and
-    /// returns the fault.
+    /// Logs a call and the bytes that it writes, without allocating. Err: the log is full; the call
+    /// is only counted, and the given fault is returned.
     pub(crate) fn enter(
         &mut self,
         call: DeviceCall,

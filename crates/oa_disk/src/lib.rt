@@ -1,10 +1,12 @@
-//! A disk of a fixed size: the bytes that a read returns, and the bytes that a crash at each point in time may leave.
+//! A disk of a fixed size: the bytes that a read returns, and the bytes that a crash at each point
+//! in time may leave.
 //!
-//! Contract: the clauses of the trait `Disk`. A write may tear until a sync succeeds. A crash during
-//! `write_then_flip` leaves either torn bytes and the old switch, or all bytes and any byte at the switch.
+//! Contract: the clauses of the trait `Disk`. A write may tear until a sync succeeds. A crash
+//! during `write_then_flip` leaves either torn bytes and the old switch, or all bytes and any byte
+//! at the switch.
 //!
-//! Used by the storage crates (oa_journal, oa_store, oa_keeper, oa_groups), oa_server and oa_history, and over a file
-//! by oa_commands and the program.
+//! Used by the storage crates (oa_journal, oa_store, oa_group_commit), oa_server and oa_history, and over
+//! a file by oa_commands and the program.
 #![tactic(auto)]
 
 mod call;

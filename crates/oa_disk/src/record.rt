@@ -1,4 +1,5 @@
-//! A log of a file's calls and their results for contracts only. It has no bytes, and its methods do nothing.
+//! A log of a file's calls and their results for contracts only. It has no bytes, and its methods
+//! do nothing.
 ghost use Rattle.std.specs.Prelude.{◌≡◌, ℕ, List, Bool};
 ghost use Rattle.std.specs.Borrow.{ftrue};
 ghost use Rattle.oa_disk.specs.declared.call.DeviceCall.{DeviceCall as Called};
@@ -6,9 +7,10 @@ ghost use Rattle.oa_disk.specs.declared.call.DeviceCall.{DeviceCall as Called};
 use crate::DeviceCall;
 use std::marker::Model;
 
+/// The log of a file's calls and their results. It exists for contracts only, and has no bytes.
 #[derive(Drop)]
 pub struct Record {
-    /// What the file held at first.
+    /// The contents of the file at first.
     pub ghost first: { List ℕ },
     pub ghost calls: { List Called },
     /// The bytes of all writes, one after the other.
@@ -24,7 +26,8 @@ impl Model for Record {
 impl Record {
     ghost use Rattle.oa_disk.specs.Record.{beginning, lengthened, noted};
 
-    /// Makes the log of a file of `size` bytes, with this byte at each place, and no call.
+    /// Makes the log of a file of `size` bytes with no call. Its ghost argument is the byte at each
+    /// place.
     pub(crate) fn beginning(_size: &u64) -> Record
         ghost held: { ℕ → ℕ }
         ensures { result ≡ beginning held _size.now }
@@ -32,15 +35,16 @@ impl Record {
         Record {}
     }
 
-    /// Makes the log of a file of `size` bytes that begins with the present contents of this one, and zeros after
-    /// them. It is as honest.
+    /// Makes the log of a file of `size` bytes that begins with the present contents of this one,
+    /// and zeros after them. It is as honest.
     pub(crate) fn lengthened(&self, _size: &u64) -> Record
         ensures { result ≡ lengthened self.now _size.now }
     {
         Record {}
     }
 
-    /// Adds a call, with the bytes that it wrote and those that it returned from `at` on.
+    /// Returns the log with one more call, the bytes that it wrote, and those that it returned from
+    /// byte `at` on.
     pub(crate) fn with(
         &self,
         _call: &DeviceCall,

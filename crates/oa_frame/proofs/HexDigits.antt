@@ -1,6 +1,7 @@
 -- Bytes as digits, part by part.
 use Rattle.std.proofs.Common.{◌≡◌, ℕ, ◌+◌, ◌-◌, ◌*◌, ◌/◌, ◌%◌, ◌<◌, ◌≤◌, ◌&&◌, ◌==◌, ◌⊎◌, zero, suc, inl, inr, Bool, true, false, List, [], ◌∷◌}
-use Rattle.std.proofs.Common.{◌++◌, get_or, length, map, take, drop, slice_index, slice_set, Some, None, Result, Ok, Err, refl, sym, ap, ◌∙◌, subst, append_assoc}
+use Rattle.std.proofs.Common.{◌++◌, get_or, length, map, take, drop, slice_index, slice_set, Some, None, Result, Ok, Err, refl, sym, ap, ◌∙◌, subst}
+use Rattle.std.proofs.Common.{append_assoc}
 use Rattle.std.proofs.Common.{arith, cond, leb, eqb, replicate, w8, Option, ◌^◌, ◌≢◌}
 use Rattle.std.proofs.lemmas.Simd.{mask_l-mod, tops_compared, zip2_splat_left}
 use Rattle.std.specs.Simd.Lanes.{mask_l, top, zip2}
@@ -18,7 +19,7 @@ use Rattle.hex.specs.declared.error.FromHexError.TheVariants.{InvalidHexCharacte
 use Rattle.hex.proofs.HexLemmas.{decode_of-even}
 use Rattle.oa_frame.specs.Digits.{AreDecoded, HasBadPair, HasDigitValue, HasNoDigit, IsDigitValue}
 use Rattle.hex.proofs.Pairs.{cons_byte, decode_start, decode_step, prepend}
-use Rattle.oa_stream.specs.Sink.{Output, Writes, Breaks}
+use Rattle.oa_stream.specs.promise.Sink.{Output, Writes, Breaks}
 use Rattle.oa_stream.proofs.Stretches.{writes_nothing, writes_then, breaks_after, breaks_before}
 
 encode_append : (t xs ys : List ℕ) → encode_with t (xs ++ ys) ≡ encode_with t xs ++ encode_with t ys
@@ -35,15 +36,18 @@ hex_next bytes at n =
     let e : at + n - at ≡ n = omega arith in
     rw e (ap encode_lower (take-add at n bytes) ∙ encode_append lower_digits (take at bytes) (take n (drop at bytes)))
 
-pub hex_more : (a b c : Output) (bytes : List ℕ) (at n : ℕ) → Writes a b (encode_lower (take at bytes)) → Writes b c (encode_lower (take (at + n - at) (drop at bytes))) → Writes a c (encode_lower (take (at + n) bytes))
+pub hex_more : (a b c : Output) (bytes : List ℕ) (at n : ℕ) → Writes a b (encode_lower (take at bytes))
+    → Writes b c (encode_lower (take (at + n - at) (drop at bytes))) → Writes a c (encode_lower (take (at + n) bytes))
 hex_more a b c bytes at n p q = subst (Writes a c) (sym (hex_next bytes at n)) (writes_then a b c _ _ p q)
 
-pub hex_breaks : (a b c : Output) (bytes : List ℕ) (at n : ℕ) → Writes a b (encode_lower (take at bytes)) → Breaks b c (encode_lower (take (at + n - at) (drop at bytes))) → Breaks a c (encode_lower bytes)
+pub hex_breaks : (a b c : Output) (bytes : List ℕ) (at n : ℕ) → Writes a b (encode_lower (take at bytes))
+    → Breaks b c (encode_lower (take (at + n - at) (drop at bytes))) → Breaks a c (encode_lower bytes)
 hex_breaks a b c bytes at n p q =
     let front = take (at + n) bytes in
     let back = drop (at + n) bytes in
     let some : Breaks a c (encode_lower front) = subst (Breaks a c) (sym (hex_next bytes at n)) (breaks_after a b c _ _ p q) in
-    let all : encode_lower front ++ encode_lower back ≡ encode_lower bytes = sym (encode_append lower_digits front back) ∙ ap encode_lower (take-append-drop (at + n) bytes) in
+    let all : encode_lower front ++ encode_lower back ≡ encode_lower bytes = sym (encode_append lower_digits front back)
+    ∙ ap encode_lower (take-append-drop (at + n) bytes) in
     subst (Breaks a c) all (breaks_before a c (encode_lower front) (encode_lower back) some)
 
 -- the digits of two stretches
@@ -51,7 +55,8 @@ pub hex_two : (head fields rest : List ℕ) → encode_lower (head ++ fields) ++
 hex_two head fields rest = ap (λ l. l ++ rest) (encode_append lower_digits head fields) ∙ append_assoc (encode_lower head) (encode_lower fields) rest
 
 -- digits in a buffer, and a line feed behind them
-pub hex_end : (fields line : List ℕ) (e : ℕ) → e < length line → take e line ≡ encode_lower fields → take (e + 1) (slice_set line e 10) ≡ encode_lower fields ++ 10 ∷ []
+pub hex_end : (fields line : List ℕ) (e : ℕ) → e < length line → take e line ≡ encode_lower fields
+    → take (e + 1) (slice_set line e 10) ≡ encode_lower fields ++ 10 ∷ []
 hex_end fields line e fits front = take_more_set line e 10 fits ∙ ap (λ l. l ++ 10 ∷ []) front
 
 -- the bytes of the pairs so far, and the pairs behind them
@@ -60,7 +65,8 @@ IsDecoded text out i = decode_pairs 0 text ≡ prepend (take i out) (decode_pair
 
 -- one value more
 pub value_more : (text values : List ℕ) (from k v : ℕ) → k < length values → HasDigitValue (slice_index text (from + k)) v
-    → ((j : ℕ) → j < k → HasDigitValue (slice_index text (from + j)) (slice_index values j)) → (j : ℕ) → j < k + 1 → HasDigitValue (slice_index text (from + j)) (slice_index (slice_set values k v) j)
+    → ((j : ℕ) → j < k → HasDigitValue (slice_index text (from + j)) (slice_index values j)) → (j : ℕ) → j < k + 1
+    → HasDigitValue (slice_index text (from + j)) (slice_index (slice_set values k v) j)
 value_more text values from k v room here so_far j below = elim (cases_lt j k) [
   | inl less ↦ rw (get_or-set_other values k j v 0 (λ e. let same = e in absurd (omega (arith, less, same)))) (so_far j less)
   | inr top ↦
@@ -140,9 +146,11 @@ record HasLarge (values : List ℕ) : Type 0 where
   below : place < length values
   large : 16 ≤ slice_index values place
 
-lane_large : (b : Bool) (v : ℕ) (values : List ℕ) → leb 16 v ≡ b → 0 < cond {A = ℕ} b 1 0 + 2 * large values → (0 < large values → HasLarge values) → HasLarge (v ∷ values)
+lane_large : (b : Bool) (v : ℕ) (values : List ℕ) → leb 16 v ≡ b → 0 < cond {A = ℕ} b 1 0 + 2 * large values → (0 < large values → HasLarge values)
+    → HasLarge (v ∷ values)
 lane_large true v values e h rest = record { place = 0; below = omega arith; large = leb-true 16 v e }
-lane_large false v values e h rest = let r = rest (omega (arith, h)) in record { place = suc r.place; below = let below = r.below in omega (arith, below); large = r.large }
+lane_large false v values e h rest = let r = rest (omega (arith, h)) in
+    record { place = suc r.place; below = let below = r.below in omega (arith, below); large = r.large }
 
 some_large : (values : List ℕ) → 0 < large values → HasLarge values
 some_large [] h = absurd (omega (arith, h))
@@ -152,19 +160,27 @@ above_zero : (n : ℕ) → n ≢ 0 → 0 < n
 above_zero zero h = absurd (h refl)
 above_zero (suc n) h = omega arith
 
-pub are_small : (values : List ℕ) → length values ≡ 32 → eqb (mask_l (map (top 7) (zip2 (λ a b. cond (leb a b) 255 0) (replicate 32 16) values)) % 2 ^ 64) 0 ≡ true → (k : ℕ) → k < 32 → IsDigitValue (slice_index values k)
+pub are_small : (values : List ℕ) → length values ≡ 32 → eqb (mask_l (map (top 7) (zip2 (λ a b. cond (leb a b) 255 0) (replicate 32 16) values)) % 2 ^ 64) 0
+    ≡ true → (k : ℕ) → k < 32 → IsDigitValue (slice_index values k)
 are_small values long h k below =
     let small = none_large values k (sym (large_is values long) ∙ eqb-true _ 0 h) (omega (arith, long, below)) in
     record { small = small; digit = λ c has. small_digit (hex_digit_value c) (slice_index values k) has.digit has.none small }
 
-pub is_large : (values : List ℕ) → length values ≡ 32 → eqb (mask_l (map (top 7) (zip2 (λ a b. cond (leb a b) 255 0) (replicate 32 16) values)) % 2 ^ 64) 0 ≡ false → HasNoDigit values 32
+pub is_large : (values : List ℕ) → length values ≡ 32 → eqb (mask_l (map (top 7) (zip2 (λ a b. cond (leb a b) 255 0) (replicate 32 16) values)) % 2 ^ 64) 0
+    ≡ false → HasNoDigit values 32
 is_large values long h =
     let some = eqb-false _ 0 h in
     let one = some_large values (rw (large_is values long) at (above_zero _ some)) in
-    record { place = one.place; below = let below = one.below in omega (arith, long, below); none = λ c has. no_digit c (hex_digit_value c) (slice_index values one.place) refl has.digit one.large }
+    record {
+      place = one.place;
+      below = let below = one.below in omega (arith, long, below);
+      none = λ c has. no_digit c (hex_digit_value c)
+          (slice_index values one.place) refl has.digit one.large;
+    }
 
 -- one byte more of a block
-pub kept_more : (old out : List ℕ) (at k v : ℕ) → ((j : ℕ) → j < at → slice_index out j ≡ slice_index old j) → (j : ℕ) → j < at → slice_index (slice_set out (at + k) v) j ≡ slice_index old j
+pub kept_more : (old out : List ℕ) (at k v : ℕ) → ((j : ℕ) → j < at → slice_index out j ≡ slice_index old j) → (j : ℕ) → j < at
+    → slice_index (slice_set out (at + k) v) j ≡ slice_index old j
 kept_more old out at k v same j below = get_or-set_other out (at + k) j v 0 (λ e. let apart = e in absurd (omega (arith, below, apart))) ∙ same j below
 
 pub written_more : (bytes out : List ℕ) (at k : ℕ) → at + k < length out → ((j : ℕ) → j < k → slice_index out (at + j) ≡ slice_index bytes j)
@@ -188,7 +204,8 @@ pub joined_at : (values : List ℕ) → length values ≡ 32 → (k : ℕ) → k
 joined_at values long k below =
     let first = get_or_append_left values values 0 (2 * k) (omega (arith, long, below)) in
     let second = get_or_append_left values values 0 (2 * k + 1) (omega (arith, long, below)) in
-    get_or-map-range_with_len (λ (j : ℕ). (get_or (values ++ values) (2 * j) 0 * 16 % 256 + get_or (values ++ values) (2 * j + 1) 0) % 256) 0 16 k k 0 below (omega arith)
+    get_or-map-range_with_len (λ (j : ℕ). (get_or (values ++ values) (2 * j) 0 * 16 % 256 + get_or (values ++ values) (2 * j + 1) 0) % 256) 0 16 k k 0 below
+    (omega arith)
     ∙ rw (first, second) (omega arith)
 
 -- the byte of two digits
@@ -211,13 +228,17 @@ block_more text old new values bytes at same written joined read are so_far k be
       let two : 2 * at + (2 * (k - at) + 1) ≡ 2 * k + 1 = omega (arith, top) in
       let first = are (2 * j) (omega (arith, within)) in
       let second = are (2 * j + 1) (omega (arith, within)) in
-      let high : hex_digit_value (slice_index text (2 * k)) ≡ Some (slice_index values (2 * j)) = rw one at (first.digit _ (read (2 * j) (omega (arith, within)))) in
-      let low : hex_digit_value (slice_index text (2 * k + 1)) ≡ Some (slice_index values (2 * j + 1)) = rw two at (second.digit _ (read (2 * j + 1) (omega (arith, within)))) in
+      let high : hex_digit_value (slice_index text (2 * k)) ≡ Some (slice_index values (2 * j)) =
+      rw one at (first.digit _ (read (2 * j) (omega (arith, within)))) in
+      let low : hex_digit_value (slice_index text (2 * k + 1)) ≡ Some (slice_index values (2 * j + 1)) =
+      rw two at (second.digit _ (read (2 * j + 1) (omega (arith, within)))) in
       let small = first.small in
       let short = second.small in
-      let sum : (slice_index values (2 * j) * 16 + slice_index values (2 * j + 1)) % 256 ≡ slice_index values (2 * j) * 16 + slice_index values (2 * j + 1) = omega (arith, small, short) in
+      let sum : (slice_index values (2 * j) * 16 + slice_index values (2 * j + 1)) % 256 ≡ slice_index values (2 * j) * 16 + slice_index values (2 * j + 1) =
+      omega (arith, small, short) in
       let byte : slice_index new k ≡ slice_index values (2 * j) * 16 + slice_index values (2 * j + 1) = rw here at (written j within) ∙ joined j within ∙ sum in
-      pair_of (slice_index text (2 * k)) (slice_index text (2 * k + 1)) i (slice_index values (2 * j)) (slice_index values (2 * j + 1)) high low ∙ ap Ok (sym byte)
+      pair_of (slice_index text (2 * k)) (slice_index text (2 * k + 1)) i (slice_index values (2 * j)) (slice_index values (2 * j + 1)) high low
+      ∙ ap Ok (sym byte)
 ]
 
 second_fails : (r : Result ℕ FromHexError) (e : FromHexError) → IsErr (r >>= (λ h. Err e >>= (λ (l : ℕ). Ok (h * 16 + l))))
@@ -241,10 +262,20 @@ block_bad text values at read h =
     elim (cases_lt (j % 2) 1) [
       | inl even ↦
           let here : 2 * at + j ≡ 2 * (at + j / 2) = omega (arith, even) in
-          record { place = at + j / 2; below = within; bad = λ i. first_none (slice_index text (2 * (at + j / 2))) (slice_index text (2 * (at + j / 2) + 1)) i (rw here at none) }
+          record {
+            place = at + j / 2;
+            below = within;
+            bad = λ i. first_none (slice_index text (2 * (at + j / 2))) (slice_index text (2 * (at + j / 2) + 1)) i
+                (rw here at none);
+          }
       | inr odd ↦
           let here : 2 * at + j ≡ 2 * (at + j / 2) + 1 = omega (arith, odd) in
-          record { place = at + j / 2; below = within; bad = λ i. second_none (slice_index text (2 * (at + j / 2))) (slice_index text (2 * (at + j / 2) + 1)) i (rw here at none) }
+          record {
+            place = at + j / 2;
+            below = within;
+            bad = λ i. second_none (slice_index text (2 * (at + j / 2))) (slice_index text (2 * (at + j / 2) + 1)) i
+                (rw here at none);
+          }
     ]
 
 -- pairs that are decoded, one behind another
@@ -256,7 +287,8 @@ in_a_row text out (suc n) fits room all =
     let more = decode_step text out n (slice_index out n) (omega (arith, fits)) (omega (arith, room)) (all n (omega arith) (2 * n)) before in
     subst (IsDecoded text out) next (subst (λ (o : List ℕ). IsDecoded text o (n + 1)) (set-get_or out n 0) more)
 
-pub all_decoded : (text out : List ℕ) (n : ℕ) → n ≡ length text / 2 → length text % 2 ≡ 0 → n ≤ length out → AreDecoded text out n → decode_of text ≡ Ok (take n out)
+pub all_decoded : (text out : List ℕ) (n : ℕ) → n ≡ length text / 2 → length text % 2 ≡ 0 → n ≤ length out → AreDecoded text out n
+    → decode_of text ≡ Ok (take n out)
 all_decoded text out n half even room all = pairs_at text out n n refl half even (in_a_row text out n (omega (arith, half)) room all)
 
 first_ends : (p : Result ℕ FromHexError) (rest : Result (List ℕ) FromHexError) → IsErr p → IsErr (p >>= (λ v. cons_byte v rest))
@@ -269,7 +301,8 @@ rest_ends (Ok v) (Err e) h = refl
 rest_ends (Err e) rest h = refl
 
 -- a pair that is none ends the decoding
-ends_badly : (text : List ℕ) (i place : ℕ) → 2 * place + 1 < length text → ((j : ℕ) → IsErr (pair_value (slice_index text (2 * place)) (slice_index text (2 * place + 1)) j)) → IsErr (decode_pairs i text)
+ends_badly : (text : List ℕ) (i place : ℕ) → 2 * place + 1 < length text
+    → ((j : ℕ) → IsErr (pair_value (slice_index text (2 * place)) (slice_index text (2 * place + 1)) j)) → IsErr (decode_pairs i text)
 unfolding decode_pairs
 ends_badly [] i place fits bad = absurd (omega (arith, fits))
 ends_badly (a ∷ []) i place fits bad = absurd (omega (arith, fits))
@@ -314,7 +347,8 @@ high_digit n low below =
     sym sum ∙ high (n - 10) (omega (arith, low, below)) ∙ ap (λ k. slice_index lower_digits k) back
 
 -- all bytes are digits
-pub all_digits : (bytes digits : List ℕ) (i n : ℕ) → length bytes ≤ i → i ≡ n → take (2 * i) digits ++ encode_lower (drop i bytes) ≡ encode_lower bytes → take (2 * n) digits ≡ encode_lower bytes
+pub all_digits : (bytes digits : List ℕ) (i n : ℕ) → length bytes ≤ i → i ≡ n → take (2 * i) digits ++ encode_lower (drop i bytes) ≡ encode_lower bytes
+    → take (2 * n) digits ≡ encode_lower bytes
 unfolding encode_with
 all_digits bytes digits i n all same so_far =
     let none = drop_all i bytes all in

@@ -1,9 +1,9 @@
 -- What has left a writer before bodies that come alone.
 use Rattle.std.proofs.Common.{◌≡◌, ℕ, ◌+◌, ◌≤◌, Bool, true, List, [], ◌∷◌, ◌++◌, length, refl, sym, ap, ◌∙◌, arith}
 use Rattle.std.proofs.lemmas.List.{append-nil, length-append}
-use Rattle.oa_stream.specs.Sink.{Output, Writes, Breaks}
-use Rattle.oa_frame.specs.Framings.{Frames}
-use Rattle.oa_frame.specs.Sessions.{HasLeft, BodiesTurned, TurnOf, but_last, joined, spelled_all}
+use Rattle.oa_stream.specs.promise.Sink.{Output, Writes, Breaks}
+use Rattle.oa_frame.specs.promise.Framings.{Frames}
+use Rattle.oa_frame.specs.promise.Sessions.{HasLeft, BodiesTurned, TurnOf, but_last, concat_replies, spelled_all}
 use Rattle.oa_frame.proofs.Spelled.{spelled_append}
 
 -- ---- replies but the last
@@ -43,15 +43,19 @@ torn_is o q bytes b = sym (length-append b.gone b.lost) ∙ ap length (sym b.who
 pub kept_less : (o p : Output) → Writes o p [] → length p.kept ≤ length o.kept
 kept_less o p w = omega (arith, gone_is o p [] w)
 
-pub writes_more : (o m p q : Output) (xs ys all : List ℕ) (lines : Writes o m xs) (w : Writes p q ys) (now : Writes o q all) → length p.kept ≤ length m.kept → length all ≡ length xs + length ys → length lines.gone ≤ length now.gone
+pub writes_more : (o m p q : Output) (xs ys all : List ℕ) (lines : Writes o m xs) (w : Writes p q ys) (now : Writes o q all) → length p.kept ≤ length m.kept
+    → length all ≡ length xs + length ys → length lines.gone ≤ length now.gone
 writes_more o m p q xs ys all lines w now less long = omega (arith, gone_is o m xs lines, gone_is p q ys w, gone_is o q all now, less, long)
 
-pub breaks_more : (o m p q : Output) (xs ys all : List ℕ) (lines : Writes o m xs) (w : Breaks p q ys) (now : Breaks o q all) → length p.kept ≤ length m.kept → length all ≡ length xs + length ys → now.lost ≡ w.lost
+pub breaks_more : (o m p q : Output) (xs ys all : List ℕ) (lines : Writes o m xs) (w : Breaks p q ys) (now : Breaks o q all) → length p.kept ≤ length m.kept
+    → length all ≡ length xs + length ys → now.lost ≡ w.lost
     → length lines.gone ≤ length now.gone
-breaks_more o m p q xs ys all lines w now less long same = omega (arith, gone_is o m xs lines, torn_is p q ys w, torn_is o q all now, less, long, ap length same)
+breaks_more o m p q xs ys all lines w now less long same =
+    omega (arith, gone_is o m xs lines, torn_is p q ys w, torn_is o q all now, less, long, ap length same)
 
-module _ (f : Frames) (alone : List ℕ → Bool) where
-  pub left_more : (n m before : ℕ) (bodies : List (List ℕ)) (handed : List (List (List ℕ))) → n ≤ m → HasLeft f alone n before bodies handed → HasLeft f alone m before bodies handed
+module _ (f : Frames) (barrier : List ℕ → Bool) where
+  pub left_more : (n m before : ℕ) (bodies : List (List ℕ)) (handed : List (List (List ℕ))) → n ≤ m → HasLeft f barrier n before bodies handed
+      → HasLeft f barrier m before bodies handed
   left_more n m before [] handed more left = tt
   left_more n m before (body ∷ bodies) [] more left = tt
   left_more n m before (body ∷ bodies) (replies ∷ handed) more left = (
@@ -59,22 +63,27 @@ module _ (f : Frames) (alone : List ℕ → Bool) where
     left_more n m (before + length (spelled_all f.spelled replies)) bodies handed more left.1,
   )
 
-  first_longer : (replies : List (List ℕ)) (handed : List (List (List ℕ))) → length (spelled_all f.spelled (joined (replies ∷ handed))) ≡ length (spelled_all f.spelled replies) + length (spelled_all f.spelled (joined handed))
-  unfolding joined
-  first_longer replies handed = ap length (spelled_append f.spelled replies (joined handed)) ∙ length-append (spelled_all f.spelled replies) (spelled_all f.spelled (joined handed))
+  first_longer : (replies : List (List ℕ)) (handed : List (List (List ℕ))) → length (spelled_all f.spelled (concat_replies (replies ∷ handed))) ≡ length
+      (spelled_all f.spelled replies) + length (spelled_all f.spelled (concat_replies handed))
+  unfolding concat_replies
+  first_longer replies handed = ap length (spelled_append f.spelled replies (concat_replies handed))
+      ∙ length-append (spelled_all f.spelled replies) (spelled_all f.spelled (concat_replies handed))
 
-  nothing_handed : length (spelled_all f.spelled (joined [])) ≡ 0
-  unfolding joined
+  nothing_handed : length (spelled_all f.spelled (concat_replies [])) ≡ 0
+  unfolding concat_replies
   nothing_handed = no_bytes f.spelled
 
   -- one body more
-  pub left_push : {S : Type 0} (turn : TurnOf S) (old mid : S) (gone before : ℕ) (bodies : List (List ℕ)) (handed : List (List (List ℕ))) (body : List ℕ) (replies : List (List ℕ)) → BodiesTurned turn old bodies handed mid
-      → HasLeft f alone gone before bodies handed
-      → (alone body ≡ true → before + length (spelled_all f.spelled (joined handed)) + length (spelled_all f.spelled (but_last replies)) ≤ gone) → HasLeft f alone gone before (bodies ++ body ∷ []) (handed ++ replies ∷ [])
+  pub left_push : {S : Type 0} (turn : TurnOf S) (old mid : S) (gone before : ℕ) (bodies : List (List ℕ)) (handed : List (List (List ℕ))) (body : List ℕ)
+      (replies : List (List ℕ)) → BodiesTurned turn old bodies handed mid
+      → HasLeft f barrier gone before bodies handed
+      → (barrier body ≡ true → before + length (spelled_all f.spelled (concat_replies handed)) + length (spelled_all f.spelled (but_last replies)) ≤ gone)
+      → HasLeft f barrier gone before (bodies ++ body ∷ []) (handed ++ replies ∷ [])
   left_push turn old mid gone before [] [] body replies r left here = (λ is. let now = here is in omega (arith, now, nothing_handed), tt)
   left_push turn old mid gone before [] (y ∷ ys) body replies r left here = absurd r
   left_push turn old mid gone before (x ∷ xs) [] body replies r left here = absurd r
   left_push turn old mid gone before (x ∷ xs) (y ∷ ys) body replies r left here = (
     left.0,
-    left_push turn r.0 mid gone (before + length (spelled_all f.spelled y)) xs ys body replies r.2 left.1 (λ is. let now = here is in omega (arith, now, first_longer y ys)),
+    left_push turn r.0 mid gone (before + length (spelled_all f.spelled y)) xs ys body replies r.2 left.1
+        (λ is. let now = here is in omega (arith, now, first_longer y ys)),
   )

@@ -4,11 +4,11 @@ use Rattle.std.proofs.Common.{true≢false}
 use Rattle.std.specs.Prelude.{nat_lt, if◌then◌else◌, Result, Ok, Err, IsErr}
 use Rattle.hex.specs.Hex.{decode_of, decode_pairs}
 use Rattle.hex.specs.declared.error.FromHexError.{FromHexError}
-use Rattle.oa_model.specs.Limits.{max_line_characters}
+use Rattle.oa_model.specs.promise.Limits.{max_line_characters}
 use Rattle.oa_frame.specs.declared.ends.End.{End}
 use Rattle.oa_frame.specs.declared.ends.End.TheVariants.{Closed, Cut, TooLong, BadHex, ReadFault, WriteFault}
-use Rattle.oa_frame.specs.Lines.{FirstLine}
-use Rattle.oa_frame.specs.Framings.{LineCan, LineStop, NextLine, hex_lines}
+use Rattle.oa_frame.specs.promise.Lines.{FirstLine}
+use Rattle.oa_frame.specs.promise.Framings.{LineCan, LineStop, NextLine, hex_lines}
 use Rattle.oa_frame.proofs.OneSplit.{no_end, one_line}
 use Rattle.oa_frame.proofs.OneReading.{IsDecided}
 
@@ -97,5 +97,6 @@ pub lines_decided : IsDecided hex_lines
 lines_decided = record {
   one = one_body;
   apart = apart;
-  end = λ why other number bytes rest rest' s can fair s' can' fair'. one_said why other number bytes (says why number bytes rest s can fair) (says other number bytes rest' s' can' fair');
+  end = λ why other number bytes rest rest' s can fair s' can' fair'. one_said why other number bytes (says why number bytes rest s can fair)
+      (says other number bytes rest' s' can' fair');
 }

@@ -3,14 +3,15 @@ use Rattle.std.proofs.Common.{◌≡◌, ◌⊎◌, ◌≤◌, ◌<◌, ℕ, ◌
 use Rattle.std.specs.Prelude.{nat_lt, if◌then◌else◌}
 use Rattle.std.proofs.lemmas.List.{length-append, take_at, drop_at}
 use Rattle.std.specs.Int.{w32, from_le_bytes}
-use Rattle.oa_model.specs.Limits.{max_request_bytes}
+use Rattle.oa_model.specs.promise.Limits.{max_request_bytes}
 use Rattle.oa_frame.specs.declared.ends.End.{End}
 use Rattle.oa_frame.specs.declared.ends.End.TheVariants.{Closed, Cut, TooLong, BadHex, ReadFault, WriteFault}
-use Rattle.oa_frame.specs.Framings.{Length, NextRecord, RecordStop, SaysLength, records}
+use Rattle.oa_frame.specs.promise.Framings.{Length, NextRecord, RecordStop, SaysLength, records}
 use Rattle.oa_frame.proofs.OneReading.{IsDecided}
 
 -- the number that four bytes say, and what follows them
-one_head : (bytes head head' more more' : List ℕ) (n n' : ℕ) → SaysLength head n → SaysLength head' n' → bytes ≡ head ++ more → bytes ≡ head' ++ more' → (n ≡ n') × (more ≡ more')
+one_head : (bytes head head' more more' : List ℕ) (n n' : ℕ) → SaysLength head n → SaysLength head' n' → bytes ≡ head ++ more → bytes ≡ head' ++ more'
+    → (n ≡ n') × (more ≡ more')
 one_head bytes head head' more more' n n' s s' e e' =
     let both = sym e ∙ e' in
     let same : head ≡ head' = sym (take_at head more 4 s.four) ∙ ap (take 4) both ∙ take_at head' more' 4 s'.four in

@@ -2,7 +2,7 @@
 use Rattle.std.proofs.Common.{◌≡◌, ◌≢◌, ℕ, List, [], ◌∷◌, ◌++◌, length, drop, get_or, refl, sym, ap, ◌∙◌, inl, inr, arith}
 use Rattle.std.specs.List.{AllByRecursion}
 use Rattle.std.proofs.lemmas.List.Elements.{recursion_from_All}
-use Rattle.oa_frame.specs.Lines.{IsFree, without_return, FirstLine}
+use Rattle.oa_frame.specs.promise.Lines.{HasNoLineFeed, without_return, FirstLine}
 
 abbrev pub IsFreeTo : List ℕ → Type 0
 IsFreeTo bytes = AllByRecursion (λ b. b ≢ 10) bytes
@@ -29,7 +29,7 @@ no_end [] (y ∷ ys) r g e = g.0 (sym (first_same 10 y r ys e))
 no_end (x ∷ xs) [] r g e = let n = ap (λ (l : List ℕ). length l) e in omega (arith, n)
 no_end (x ∷ xs) (y ∷ ys) r g e = no_end xs ys r g.1 (rest_same x y (xs ++ 10 ∷ r) ys e)
 
-free_to : (bytes : List ℕ) → IsFree bytes → IsFreeTo bytes
+free_to : (bytes : List ℕ) → HasNoLineFeed bytes → IsFreeTo bytes
 free_to bytes f = recursion_from_All (λ b. b ≢ 10) bytes f
 
 pub one_line : (bytes line line' rest rest' : List ℕ) → FirstLine bytes line rest → FirstLine bytes line' rest' → (line ≡ line') × (rest ≡ rest')

@@ -4,11 +4,11 @@ use Rattle.std.proofs.Common.{sym, ap, ◌∙◌, append_assoc, length-take-le, 
 use Rattle.std.proofs.lemmas.List.{append-nil, drop_at, length-append, length-drop}
 use lib.Seq.{take-add}
 use Rattle.std.specs.Io.KnownBytes.{Consumes, IsAtEnd}
-use Rattle.oa_model.specs.Limits.{max_request_bytes}
-use Rattle.oa_stream.specs.Source.{Input, later}
+use Rattle.oa_model.specs.promise.Limits.{max_request_bytes}
+use Rattle.oa_stream.specs.promise.Source.{Input, later}
 use Rattle.oa_frame.specs.declared.ends.End.TheVariants.{Cut, ReadFault}
-use Rattle.oa_frame.specs.Known.{Known}
-use Rattle.oa_frame.specs.Framings.{records, SaysLength}
+use Rattle.oa_frame.specs.promise.Known.{Known}
+use Rattle.oa_frame.specs.promise.Framings.{records, SaysLength}
 use Rattle.oa_frame.specs.Records.{Gets, SpendsCalls}
 use Rattle.oa_frame.specs.declared.records.Got.TheVariants.{Fault}
 use Rattle.oa_frame.specs.Paces.{Paced}
@@ -64,7 +64,8 @@ last_part before one two n size =
     let both = length-append one two in
     let front = length-append before one in
     let same : length (before ++ (one ++ two)) - n ≡ length (before ++ one) = omega (arith, all, both, front, size) in
-    ap (λ l. drop (length (before ++ (one ++ two)) - n) l) (sym (append_assoc before one two)) ∙ drop_at (before ++ one) two (length (before ++ (one ++ two)) - n) (sym same)
+    ap (λ l. drop (length (before ++ (one ++ two)) - n) l) (sym (append_assoc before one two))
+    ∙ drop_at (before ++ one) two (length (before ++ (one ++ two)) - n) (sym same)
 
 -- a record that was read ahead whole
 pub record_ahead : (a c : Option (List ℕ)) (front before passed : List ℕ) (n : ℕ) → SaysLength (take 4 front) n → 0 < n → n ≤ max_request_bytes

@@ -1,8 +1,8 @@
 -- What a session requires, and keeps. (This project's choice.)
 use Rattle.std.specs.Prelude.{◌≡◌, ◌+◌, ◌≤◌, ℕ, false}
-use Rattle.oa_model.specs.Limits.{max_line_characters, max_request_bytes}
-use Rattle.oa_stream.specs.Sink.{Output}
-use Rattle.oa_stream.specs.Source.{Input}
+use Rattle.oa_model.specs.promise.Limits.{max_line_characters, max_request_bytes}
+use Rattle.oa_stream.specs.promise.Sink.{Output}
+use Rattle.oa_stream.specs.promise.Source.{Input}
 
 -- neither the reader nor the writer has failed
 pub record AreUnbroken (input : Input) (out : Output) : Type 0 where

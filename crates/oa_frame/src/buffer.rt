@@ -1,8 +1,8 @@
 //! The buffer of bodies.
 ghost use Rattle.std.specs.Prelude.{◌≤◌, length, max, vec_capacity};
 
-/// Lengthens a buffer to `len` bytes with zeros, if it is shorter, within its capacity. So only as much memory is
-/// touched as the longest body needs. Allocates nothing.
+/// Lengthens a buffer to `len` bytes with zeros, if it is shorter, within its capacity. So the
+/// memory that is touched is only that of the longest body so far. Allocates nothing.
 pub(crate) fn lengthen(buffer: &mut Vec<u8>, len: usize)
     requires { len ≤ vec_capacity buffer.old }
     ensures len { len ≤ length buffer.new.items }

@@ -7,11 +7,13 @@ pub enum End {
     Closed,
     /// The input ended inside a record.
     Cut,
-    /// A line has more than `MAX_LINE_CHARACTERS` characters, or a record's length is above `MAX_REQUEST_BYTES`.
+    /// A line has more than `MAX_LINE_CHARACTERS` characters, or a record's length is above
+    /// `MAX_REQUEST_BYTES`.
     TooLong,
     /// The line with this number, counted from 1, is not hexadecimal.
     BadHex(u64),
-    /// The reader failed, or was called `MAX_READ_CALLS` times for one body; or `MAX_RECORDS` bodies were answered.
+    /// The reader failed, or was called `MAX_READ_CALLS` times for one body; or `MAX_RECORDS`
+    /// bodies were answered.
     ReadFault,
     /// The writer failed.
     WriteFault,

@@ -1,14 +1,15 @@
 //! How bodies are delimited in a stream of bytes.
 ghost use Rattle.std.specs.Prelude.{length, vec_capacity};
-ghost use Rattle.oa_stream.specs.Ahead.{ahead, passed};
+ghost use Rattle.oa_stream.specs.BufferedSource.{ahead, passed};
 ghost use Rattle.oa_frame.specs.Beginnings.{AreUnbroken, HoldLongest, KeepPlaces};
-ghost use Rattle.oa_frame.specs.Framings.{GrowsTo, Hands, Inputs, Fits, frames, ends_in_read_fault};
+ghost use Rattle.oa_frame.specs.Framings.{GrowsTo, Hands, Inputs, IsBodyAt, ends_in_read_fault};
+ghost use Rattle.oa_frame.specs.promise.Framings.{frames};
 ghost use Rattle.oa_frame.specs.Paces.{Paced};
 
 use crate::End;
 use crate::hex_lines::read_hex;
 use crate::records::read_record;
-use oa_stream::{Ahead, Sink, Source};
+use oa_stream::{BufferedSource, Sink, Source};
 
 /// How bodies and replies are delimited on a stream (this project's choice).
 #[derive(Clone, Copy, Debug, PartialEq, Eq)]
@@ -22,8 +23,8 @@ pub enum Framing {
 /// The next item of the input.
 #[derive(Clone, Copy, Debug, PartialEq, Eq)]
 pub enum Read {
-    /// A body of this many bytes, and whether it is in the read-ahead buffer: then it is the last part that was
-    /// consumed of it.
+    /// A body of this many bytes, and whether it is in the read-ahead buffer: then it is the last
+    /// part that was consumed of it.
     Body(usize, bool),
     /// What ends the session.
     Ends(End),
@@ -31,17 +32,19 @@ pub enum Read {
     Unwritten,
 }
 
-/// Reads body number `number`, counted from 1, and consumes nothing after it. The body is at the start of `body`, or
-/// it is the last part that was consumed of the read-ahead buffer.
+/// Reads body number `number`, counted from 1, and consumes nothing after it. Returns `Body(count,
+/// is_ahead)`: the body is the first `count` bytes of `body`, or, if `is_ahead`, the last `count`
+/// bytes that were consumed of the read-ahead buffer. Otherwise returns what ends the session, or
+/// that the writer failed.
 ///
-/// If all of it was read ahead, neither reader nor writer is called. Otherwise the writer is flushed before the first
-/// byte is consumed, and the reader is called at most `MAX_READ_CALLS` times. Allocates nothing: `line` has capacity
-/// for the longest line (records do not use it), and `body` for the longest body. `body` is lengthened at most to the
-/// length of a body that comes.
+/// If all of it was read ahead, neither reader nor writer is called. Otherwise the writer is
+/// flushed before the first byte is consumed, and the reader is called at most `MAX_READ_CALLS`
+/// times. Allocates nothing: `line` has capacity for the longest line (records do not use it), and
+/// `body` for the longest body. `body` is lengthened at most to the length of a body that comes.
 #[inline(always)]
 pub fn read_body<R: Source + Drop, W: Sink>(
     framing: Framing,
-    reader: &mut Ahead<R>,
+    reader: &mut BufferedSource<R>,
     writer: &mut W,
     line: &mut Vec<u8>,
     body: &mut Vec<u8>,
@@ -50,7 +53,7 @@ pub fn read_body<R: Source + Drop, W: Sink>(
     requires buffers { HoldLongest (vec_capacity line.now) (vec_capacity body.now) }
     requires unbroken { AreUnbroken (ahead R.input reader.old) (W.out writer.old) }
     ensures places { KeepPlaces (vec_capacity line.old) (vec_capacity line.new) (vec_capacity body.old) (vec_capacity body.new) }
-    ensures within { Fits result body.new.items (passed reader.new) }
+    ensures within { IsBodyAt result body.new.items (passed reader.new) }
     ensures longest { GrowsTo result (length body.old.items) (length body.new.items) }
     ensures input { Inputs (frames framing) result number body.new.items (passed reader.new) (ahead R.input reader.old).left (ahead R.input reader.new).left }
     ensures paced { Paced (ends_in_read_fault result) (ahead R.input reader.old) (ahead R.input reader.new) }

@@ -2,28 +2,31 @@
 ghost use Rattle.std.specs.Prelude.{◌≡◌, ◌<◌, ◌≤◌, ◌+◌, ◌*◌, ◌%◌, ℕ, true, false, length, slice_index, take, vec_capacity};
 ghost use Rattle.std.specs.Prelude.{Ok, IfSome, IsErr, IsNone};
 ghost use Rattle.hex.specs.Hex.{decode_of, pair_value};
-ghost use Rattle.oa_model.specs.Limits.{max_request_bytes};
-ghost use Rattle.oa_stream.specs.Ahead.{ahead, passed};
+ghost use Rattle.oa_model.specs.promise.Limits.{max_request_bytes};
+ghost use Rattle.oa_stream.specs.BufferedSource.{ahead, passed};
 ghost use Rattle.oa_frame.specs.Beginnings.{AreUnbroken, HoldLongest};
 ghost use Rattle.oa_frame.specs.Digits.{AreDecoded, HasBadPair, HasDigitValue, HasNoDigit, IsDigitValue};
-ghost use Rattle.oa_frame.specs.Lines.{DecodesLine, without_return};
-ghost use Rattle.oa_frame.specs.Framings.{GrowsTo, Hands, Inputs, Fits, hex_lines, ends_in_read_fault};
+ghost use Rattle.oa_frame.specs.Lines.{DecodesLine};
+ghost use Rattle.oa_frame.specs.promise.Lines.{without_return};
+ghost use Rattle.oa_frame.specs.Framings.{GrowsTo, Hands, Inputs, IsBodyAt, ends_in_read_fault};
+ghost use Rattle.oa_frame.specs.promise.Framings.{hex_lines};
 ghost use Rattle.oa_frame.specs.Paces.{Paced};
 
 use crate::buffer::lengthen;
 use crate::lines::{Found, LINE_LIMIT, read_line};
 use crate::{End, Read};
 use memchr::memchr;
-use oa_stream::{Ahead, Sink, Source, Unwritten};
+use oa_stream::{BufferedSource, Sink, Source, Unwritten};
 use std::simd::prelude::*;
 
-/// How many bytes are decoded at a time.
+/// The number of bytes that are decoded at a time.
 const BLOCK: usize = 16;
 
-/// Reads the body of the line with this number. A line that was read ahead whole is decoded in place.
+/// Reads the body of line number `number`, counted from 1, into `body`. A line that was read ahead
+/// whole is decoded in place.
 #[inline(always)]
 pub(crate) fn read_hex<R: Source + Drop, W: Sink>(
-    reader: &mut Ahead<R>,
+    reader: &mut BufferedSource<R>,
     writer: &mut W,
     line: &mut Vec<u8>,
     body: &mut Vec<u8>,
@@ -33,7 +36,7 @@ pub(crate) fn read_hex<R: Source + Drop, W: Sink>(
     requires unbroken { AreUnbroken (ahead R.input reader.old) (W.out writer.old) }
     ensures capacity { vec_capacity line.old ≤ vec_capacity line.new }
     ensures buffer { vec_capacity body.old ≤ vec_capacity body.new }
-    ensures within { Fits result body.new.items (passed reader.new) }
+    ensures within { IsBodyAt result body.new.items (passed reader.new) }
     ensures longest { GrowsTo result (length body.old.items) (length body.new.items) }
     ensures input { Inputs hex_lines result number body.new.items (passed reader.new) (ahead R.input reader.old).left (ahead R.input reader.new).left }
     ensures paced { Paced (ends_in_read_fault result) (ahead R.input reader.old) (ahead R.input reader.new) }
@@ -48,11 +51,11 @@ pub(crate) fn read_hex<R: Source + Drop, W: Sink>(
     read_on(reader, writer, line, body, number)
 }
 
-/// Reads the body of a line whose end was not read ahead. First the writer is flushed, so that a client that sends
-/// the line has received all replies.
+/// Reads the body of a line whose end was not read ahead. First the writer is flushed, so that a
+/// client that sends the line has received all replies.
 #[inline(never)]
 fn read_on<R: Source + Drop, W: Sink>(
-    reader: &mut Ahead<R>,
+    reader: &mut BufferedSource<R>,
     writer: &mut W,
     line: &mut Vec<u8>,
     body: &mut Vec<u8>,
@@ -62,7 +65,7 @@ fn read_on<R: Source + Drop, W: Sink>(
     requires unbroken { AreUnbroken (ahead R.input reader.old) (W.out writer.old) }
     ensures capacity { vec_capacity line.old ≤ vec_capacity line.new }
     ensures buffer { vec_capacity body.old ≤ vec_capacity body.new }
-    ensures within { Fits result body.new.items (passed reader.new) }
+    ensures within { IsBodyAt result body.new.items (passed reader.new) }
     ensures longest { GrowsTo result (length body.old.items) (length body.new.items) }
     ensures input { Inputs hex_lines result number body.new.items (passed reader.new) (ahead R.input reader.old).left (ahead R.input reader.new).left }
     ensures paced { Paced (ends_in_read_fault result) (ahead R.input reader.old) (ahead R.input reader.new) }
@@ -90,7 +93,7 @@ fn trimmed(raw: &[u8]) -> &[u8]
     raw
 }
 
-/// Decodes a line.
+/// Decodes a line into `body`. It ends the session if it is empty, too long or not hexadecimal.
 #[inline(never)]
 fn judge(line: &[u8], body: &mut Vec<u8>, number: u64) -> Read
     requires { max_request_bytes ≤ vec_capacity body.now }
@@ -111,7 +114,8 @@ fn judge(line: &[u8], body: &mut Vec<u8>, number: u64) -> Read
     }
 }
 
-/// Decodes digits into the front of a buffer. Returns how many bytes they are; None if the line is not hexadecimal.
+/// Decodes digits into the front of `buffer`, and returns the number of bytes. None if the line is
+/// not hexadecimal, or has an odd number of digits.
 fn decode(line: &[u8], buffer: &mut [u8]) -> Option<usize>
     requires { length line.now ≤ 2 * length buffer.old }
     ensures len { length buffer.new ≡ length buffer.old }
@@ -131,8 +135,8 @@ fn decode(line: &[u8], buffer: &mut [u8]) -> Option<usize>
     }
 }
 
-/// Decodes `count` pairs of digits. Returns false if some pair is invalid; the loops continue after that, since many
-/// pairs are decoded at a time.
+/// Decodes `count` pairs of digits, and returns whether all are valid. The loops continue after an
+/// invalid one, since many pairs are decoded at a time.
 fn decode_all(line: &[u8], count: usize, buffer: &mut [u8]) -> bool
     requires digits { 2 * count ≤ length line.now }
     requires room { count ≤ length buffer.old }
@@ -154,7 +158,7 @@ fn decode_all(line: &[u8], count: usize, buffer: &mut [u8]) -> bool
     good
 }
 
-/// Decodes a few pairs, one at a time.
+/// Decodes `count` pairs one at a time, and returns whether all are valid. For fewer than 16 pairs.
 fn decode_few(line: &[u8], count: usize, buffer: &mut [u8]) -> bool
     requires digits { 2 * count ≤ length line.now }
     requires room { count ≤ length buffer.old }
@@ -171,7 +175,7 @@ fn decode_few(line: &[u8], count: usize, buffer: &mut [u8]) -> bool
     good
 }
 
-/// Decodes the 16 pairs from pair `at` on. Returns false if some of them is invalid.
+/// Decodes the 16 pairs from pair `at` on, and returns whether all are valid.
 #[inline(always)]
 fn decode_block(line: &[u8], at: usize, buffer: &mut [u8]) -> bool
     requires digits { 2 * (at + 16) ≤ length line.now }
@@ -188,7 +192,7 @@ fn decode_block(line: &[u8], at: usize, buffer: &mut [u8]) -> bool
     are_digits(&values)
 }
 
-/// Joins 32 values to 16 bytes, each of two adjacent values.
+/// Returns 16 bytes, each made of two adjacent values of digits, the higher first.
 fn joined(values: &[u8; 32]) -> [u8; 16]
     ensures { (k : ℕ) → k < 16 → slice_index result k ≡ (slice_index values.now (2 * k) * 16 + slice_index values.now (2 * k + 1)) % 256 }
 {
@@ -207,7 +211,7 @@ fn are_digits(values: &[u8; 32]) -> bool
     none.to_bitmask() == 0
 }
 
-/// Returns the values of the 32 digits of a block.
+/// Returns the values of the 32 digits from character `from` on.
 fn values_at(line: &[u8], from: usize) -> [u8; 32]
     requires { from + 32 ≤ length line.now }
     ensures { (k : ℕ) → k < 32 → HasDigitValue (slice_index line.now (from + k)) (slice_index result k) }

@@ -1,7 +1,7 @@
 //! Bodies and replies as lines of digits or as records, and a session over them.
 //!
-//! Contract: `serve` writes exactly the replies of its server to the bodies that it read, or a prefix of them if the
-//! writer fails (`Session`).
+//! Contract: `serve` writes exactly the replies of its server to the bodies that it read, or a
+//! prefix of them if the writer fails (`Session`).
 //!
 //! Used by oa_server for its sessions, and by the program for the digits of a dump.
 #![tactic(auto)]

@@ -1,15 +1,16 @@
 //! Reading lines.
 ghost use Rattle.std.specs.Prelude.{◌≡◌, ◌≤◌, ◌+◌, ◌++◌, false, length, vec_capacity};
-ghost use Rattle.oa_model.specs.Limits.{max_line_characters};
-ghost use Rattle.oa_stream.specs.Ahead.{ahead, read_ahead};
-ghost use Rattle.oa_stream.specs.Sink.{IsHandedOn};
-ghost use Rattle.oa_frame.specs.Known.{Known};
-ghost use Rattle.oa_frame.specs.Lines.{FindsLine, FindsAtEnd, TakesPieces, is_lost, without_return};
+ghost use Rattle.oa_model.specs.promise.Limits.{max_line_characters};
+ghost use Rattle.oa_stream.specs.BufferedSource.{ahead, read_ahead};
+ghost use Rattle.oa_stream.specs.promise.Sink.{IsHandedOn};
+ghost use Rattle.oa_frame.specs.promise.Known.{Known};
+ghost use Rattle.oa_frame.specs.Lines.{FindsLine, FindsAtEnd, TakesPieces, is_lost};
+ghost use Rattle.oa_frame.specs.promise.Lines.{without_return};
 ghost use Rattle.oa_frame.specs.Paces.{Paced};
 ghost use Rattle.oa_frame.specs.declared.lines.Found.TheVariants as Found;
 
 use memchr::memchr;
-use oa_stream::{Ahead, More, Sink, Source};
+use oa_stream::{BufferedSource, More, Sink, Source};
 
 /// The greatest number of characters of a line, without its end.
 pub(crate) const LINE_LIMIT: usize = oa_model::MAX_LINE_CHARACTERS as usize;
@@ -30,7 +31,7 @@ pub(crate) enum Found {
     Fault,
 }
 
-/// How much of a line was consumed.
+/// The part of a line that was consumed.
 #[derive(Clone, Copy)]
 pub(crate) enum Piece {
     /// All up to its line feed.
@@ -41,11 +42,12 @@ pub(crate) enum Piece {
     Part,
 }
 
-/// Reads one line into `line`, which has capacity for the longest one, without its line feed and a carriage return
-/// before that. It consumes nothing after the line feed. The writer has been flushed, so a client that sends the line
-/// has received all replies.
+/// Reads one line into `line`, which has capacity for the longest one, without its line feed and a
+/// carriage return before that. It consumes nothing after the line feed. `TooLong` is a line above
+/// `LINE_LIMIT` characters, `Fault` a failed reader or more than `MAX_READ_CALLS` calls of it. The
+/// writer has been flushed, so a client that sends the line has received all replies.
 pub(crate) fn read_line<R: Source + Drop, W: Sink>(
-    reader: &mut Ahead<R>,
+    reader: &mut BufferedSource<R>,
     writer: &W,
     line: &mut Vec<u8>,
 ) -> Found
@@ -78,8 +80,9 @@ pub(crate) fn read_line<R: Source + Drop, W: Sink>(
     Found::Fault
 }
 
-/// Consumes the part of the read-ahead buffer that belongs to the line.
-fn take_piece<R: Source + Drop>(reader: &mut Ahead<R>, line: &mut Vec<u8>) -> Piece
+/// Consumes the part of the read-ahead buffer that belongs to the line, and appends it to `line`
+/// without the line feed.
+fn take_piece<R: Source + Drop>(reader: &mut BufferedSource<R>, line: &mut Vec<u8>) -> Piece
     requires room { max_line_characters + 1 ≤ vec_capacity line.now }
     requires short { length line.old.items ≤ max_line_characters + 1 }
     ensures capacity { vec_capacity line.old ≤ vec_capacity line.new }
@@ -111,7 +114,7 @@ fn take_piece<R: Source + Drop>(reader: &mut Ahead<R>, line: &mut Vec<u8>) -> Pi
     }
 }
 
-/// Appends characters, which must fit.
+/// Appends characters to a line that has capacity for them.
 fn push(line: &mut Vec<u8>, bytes: &[u8])
     requires { length line.old.items + length bytes.now ≤ vec_capacity line.old }
     ensures items { line.new.items ≡ line.old.items ++ bytes.now }
@@ -120,7 +123,7 @@ fn push(line: &mut Vec<u8>, bytes: &[u8])
     line.extend_from_slice(bytes).unwrap();
 }
 
-/// A line feed came: drops the carriage return before it.
+/// Ends a line at its line feed, and drops a carriage return before that.
 fn whole(line: &mut Vec<u8>) -> Found
     ensures capacity { vec_capacity line.old ≤ vec_capacity line.new }
     ensures line { line.new.items ≡ without_return line.old.items }
@@ -133,7 +136,8 @@ fn whole(line: &mut Vec<u8>) -> Found
     Found::Line
 }
 
-/// The input ended.
+/// Returns what the end of the input makes of the characters so far: a line, or no line if there
+/// are none.
 fn ended(line: &[u8]) -> Found
     ensures { FindsAtEnd result line.now }
 {

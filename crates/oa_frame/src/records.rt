@@ -1,19 +1,20 @@
 //! Bodies as records of a length and that many bytes.
 ghost use Rattle.std.specs.Prelude.{◌≡◌, ◌≤◌, ◌<◌, ◌+◌, ℕ, List, Option, false, drop, length, take, vec_capacity, IfSome};
 ghost use Rattle.std.specs.Io.KnownBytes.{Consumes};
-ghost use Rattle.oa_model.specs.Limits.{max_request_bytes};
-ghost use Rattle.oa_stream.specs.Ahead.{TakesAhead, ahead, passed, read_ahead};
-ghost use Rattle.oa_stream.specs.Sink.{IsHandedOn};
-ghost use Rattle.oa_stream.specs.Source.{Input};
+ghost use Rattle.oa_model.specs.promise.Limits.{max_request_bytes};
+ghost use Rattle.oa_stream.specs.BufferedSource.{TakesAhead, ahead, passed, read_ahead};
+ghost use Rattle.oa_stream.specs.promise.Sink.{IsHandedOn};
+ghost use Rattle.oa_stream.specs.promise.Source.{Input};
 ghost use Rattle.oa_frame.specs.Beginnings.{AreUnbroken};
-ghost use Rattle.oa_frame.specs.Framings.{GrowsTo, Hands, Inputs, WriterStands, Fits, SaysLength, ends_in_read_fault, records};
+ghost use Rattle.oa_frame.specs.Framings.{GrowsTo, Hands, Inputs, WriterStands, IsBodyAt, ends_in_read_fault};
+ghost use Rattle.oa_frame.specs.promise.Framings.{SaysLength, records};
 ghost use Rattle.oa_frame.specs.Paces.{Paced};
 ghost use Rattle.oa_frame.specs.Records.{Fetches, Gets, MayCall, SpendsCalls, is_gone};
 
 use crate::buffer::lengthen;
 use crate::lines::MAX_READ_CALLS;
 use crate::{End, Read};
-use oa_stream::{Ahead, More, Sink, Source};
+use oa_stream::{BufferedSource, More, Sink, Source};
 
 /// The greatest number of bytes of a body.
 const BODY_LIMIT: usize = oa_model::MAX_REQUEST_BYTES as usize;
@@ -29,17 +30,19 @@ pub(crate) enum Got {
     Fault,
 }
 
-/// Reads the body of one record. One that was read ahead whole is not copied.
+/// Reads the body of one record: the last bytes that were consumed of the read-ahead buffer if it
+/// was read ahead whole, otherwise the first bytes of `body`. `Unwritten` if the writer fails
+/// before a wait.
 #[inline(always)]
 pub(crate) fn read_record<R: Source + Drop, W: Sink>(
-    reader: &mut Ahead<R>,
+    reader: &mut BufferedSource<R>,
     writer: &mut W,
     body: &mut Vec<u8>,
 ) -> Read
     requires buffer { max_request_bytes ≤ vec_capacity body.now }
     requires unbroken { AreUnbroken (ahead R.input reader.old) (W.out writer.old) }
     ensures buffer { vec_capacity body.old ≤ vec_capacity body.new }
-    ensures within { Fits result body.new.items (passed reader.new) }
+    ensures within { IsBodyAt result body.new.items (passed reader.new) }
     ensures longest { GrowsTo result (length body.old.items) (length body.new.items) }
     ensures input { (number : ℕ)
         → Inputs records result number body.new.items (passed reader.new) (ahead R.input reader.old).left (ahead R.input reader.new).left }
@@ -56,7 +59,8 @@ pub(crate) fn read_record<R: Source + Drop, W: Sink>(
     }
 }
 
-/// Returns the length of the first record's body, if all of it is here and it is not an end.
+/// Returns the length in bytes of the first record's body. None if the record is not whole in
+/// `front`, or its length ends the session.
 fn whole_record(front: &[u8]) -> Option<usize>
     ensures within { IfSome result (λ n. (0 < n) × (n ≤ max_request_bytes) × (4 + n ≤ length front.now)) }
     ensures says { IfSome result (λ n. SaysLength (take 4 front.now) n) }
@@ -70,10 +74,11 @@ fn whole_record(front: &[u8]) -> Option<usize>
     }
 }
 
-/// Reads one record. The writer has been flushed, so a client that sends the record has received all replies.
+/// Reads one record. The writer has been flushed, so a client that sends the record has received
+/// all replies.
 #[inline(never)]
 fn read_waiting<R: Source + Drop, W: Sink>(
-    reader: &mut Ahead<R>,
+    reader: &mut BufferedSource<R>,
     writer: &W,
     body: &mut Vec<u8>,
 ) -> Read
@@ -81,7 +86,7 @@ fn read_waiting<R: Source + Drop, W: Sink>(
     requires unbroken { (ahead R.input reader.old).faulted ≡ false }
     requires quiet { IsHandedOn (W.out writer.now) }
     ensures buffer { vec_capacity body.old ≤ vec_capacity body.new }
-    ensures within { Fits result body.new.items (passed reader.new) }
+    ensures within { IsBodyAt result body.new.items (passed reader.new) }
     ensures longest { GrowsTo result (length body.old.items) (length body.new.items) }
     ensures input { (number : ℕ)
         → Inputs records result number body.new.items (passed reader.new) (ahead R.input reader.old).left (ahead R.input reader.new).left }
@@ -101,9 +106,10 @@ fn read_waiting<R: Source + Drop, W: Sink>(
     }
 }
 
-/// Reads the body of this length after its length was read; `calls` counts the read calls for it.
+/// Reads a body of `n` bytes after its length was read. `calls` read calls were made for the
+/// record.
 fn read_content<R: Source + Drop, W: Sink>(
-    reader: &mut Ahead<R>,
+    reader: &mut BufferedSource<R>,
     writer: &W,
     body: &mut Vec<u8>,
     n: usize,
@@ -112,7 +118,7 @@ fn read_content<R: Source + Drop, W: Sink>(
     requires buffer { max_request_bytes ≤ vec_capacity body.now }
     requires called { MayCall calls (ahead R.input reader.old) (W.out writer.now) }
     ensures buffer { vec_capacity body.old ≤ vec_capacity body.new }
-    ensures within { Fits result body.new.items (passed reader.new) }
+    ensures within { IsBodyAt result body.new.items (passed reader.new) }
     ensures longest { GrowsTo result (length body.old.items) (length body.new.items) }
     ensures input { (number : ℕ) (bytes : Option (List ℕ)) (head : List ℕ) → SaysLength head n
         → Consumes bytes (ahead R.input reader.old).left head
@@ -131,9 +137,9 @@ fn read_content<R: Source + Drop, W: Sink>(
     read_bytes(reader, writer, body, n, calls)
 }
 
-/// Reads a body of at least one byte into a buffer that is long enough.
+/// Reads a body of `n` bytes, at least one, into a buffer that is long enough.
 fn read_bytes<R: Source + Drop, W: Sink>(
-    reader: &mut Ahead<R>,
+    reader: &mut BufferedSource<R>,
     writer: &W,
     body: &mut [u8],
     n: usize,
@@ -144,7 +150,7 @@ fn read_bytes<R: Source + Drop, W: Sink>(
     requires room { n ≤ length body.now }
     requires called { MayCall calls (ahead R.input reader.old) (W.out writer.now) }
     ensures len { length body.new ≡ length body.old }
-    ensures within { Fits result body.new (passed reader.new) }
+    ensures within { IsBodyAt result body.new (passed reader.new) }
     ensures whole { GrowsTo result 0 n }
     ensures input { (number : ℕ) (bytes : Option (List ℕ)) (head : List ℕ) → SaysLength head n
         → Consumes bytes (ahead R.input reader.old).left head
@@ -160,9 +166,10 @@ fn read_bytes<R: Source + Drop, W: Sink>(
     }
 }
 
-/// Reads until a buffer is full; `calls` counts the read calls for the record, at most `MAX_READ_CALLS`.
+/// Reads until `out` is full. `calls` counts the read calls for the record: above `MAX_READ_CALLS`
+/// the result is `Fault`.
 fn fill_up<R: Source + Drop, W: Sink>(
-    reader: &mut Ahead<R>,
+    reader: &mut BufferedSource<R>,
     writer: &W,
     out: &mut [u8],
     calls: &mut u32,
@@ -185,8 +192,9 @@ fn fill_up<R: Source + Drop, W: Sink>(
     if at < out.len() { Got::Fault } else { Got::All }
 }
 
-/// Fills a buffer from place `at` on with bytes that were read ahead, and returns up to which place it is filled.
-fn fetch<R: Source + Drop>(reader: &mut Ahead<R>, out: &mut [u8], at: usize) -> usize
+/// Fills a buffer from byte `at` on with bytes that were read ahead, and returns the byte after the
+/// last one.
+fn fetch<R: Source + Drop>(reader: &mut BufferedSource<R>, out: &mut [u8], at: usize) -> usize
     requires { at ≤ length out.old }
     ensures len { length out.new ≡ length out.old }
     ensures fetches { Fetches result at (read_ahead reader.old) (read_ahead reader.new)
@@ -199,8 +207,8 @@ fn fetch<R: Source + Drop>(reader: &mut Ahead<R>, out: &mut [u8], at: usize) -> 
     at + n
 }
 
-/// Consumes this many bytes.
-fn skip<R: Source + Drop>(reader: &mut Ahead<R>, count: usize)
+/// Consumes `count` bytes of the read-ahead buffer.
+fn skip<R: Source + Drop>(reader: &mut BufferedSource<R>, count: usize)
     requires { count ≤ length (read_ahead reader.old) }
     ensures held { read_ahead reader.new ≡ drop count (read_ahead reader.old) }
     ensures taken { TakesAhead (take count (read_ahead reader.old)) (ahead R.input reader.old) (ahead R.input reader.new) }

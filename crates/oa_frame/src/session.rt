@@ -1,19 +1,24 @@
 //! Sessions over a reader and a writer.
 ghost use Rattle.std.specs.Prelude.{◌≡◌, ◌≤◌, ℕ, Bool, List, false, true, length, vec_capacity};
-ghost use Rattle.oa_stream.specs.Ahead.{ahead, passed};
-ghost use Rattle.oa_stream.specs.Sink.{IsHandedOn, Puts};
+ghost use Rattle.oa_stream.specs.BufferedSource.{ahead, passed};
+ghost use Rattle.oa_stream.specs.promise.Sink.{IsHandedOn};
+ghost use Rattle.oa_stream.specs.Sink.{Puts};
 ghost use Rattle.oa_frame.specs.Beginnings.{AreUnbroken, HoldLongest};
-ghost use Rattle.oa_frame.specs.Framings.{Fits, body_of, frames};
+ghost use Rattle.oa_frame.specs.Framings.{IsBodyAt, body_of_read};
+ghost use Rattle.oa_frame.specs.promise.Framings.{frames};
 ghost use Rattle.oa_frame.specs.declared.framing.Read.TheVariants.{Body};
-ghost use Rattle.oa_frame.specs.Sessions.{Abandons, AnswersBody, AnswersNext, AnswersOwn, Closes, Finishes, HandsOn};
-ghost use Rattle.oa_frame.specs.Sessions.{HasEnded, IsParted, Session, is_answered, last_reply, spelled_all, step};
+ghost use Rattle.oa_frame.specs.Sessions.{AnswersBody, AnswersNext, AnswersOwn, Closes, DropsHeld, FlushesHeld};
+ghost use Rattle.oa_frame.specs.Sessions.{HandsOn, HasEnded, IsParted, step};
+ghost use Rattle.oa_frame.specs.promise.Sessions.{Session, is_answered, last_reply, spelled_all};
 
 use crate::writing::put_reply;
 use crate::{End, Framing, Read, read_body};
 use oa_model::MAX_RECORDS;
-use oa_stream::{Ahead, Sink, Source, Unwritten};
+use oa_stream::{BufferedSource, Sink, Source, Unwritten};
 
-/// A server of one client. It may hold replies back, and send those to many bodies at once.
+/// A server of one client. It may hold replies back, and send those to many bodies at once. A body
+/// that *comes alone* (REPLACE LIBRARY) is a barrier: held replies are written and flushed before
+/// it.
 ///
 /// Contracts see a reply as its bytes without a length.
 pub trait Responder {
@@ -23,18 +28,20 @@ pub trait Responder {
     /// A turn: the state before, the body, the replies that are sent then, the state after.
     ghost turn: { Self → List ℕ → List (List ℕ) → Self → Type 0 };
 
-    /// A flush, at the end of the input and before a barrier: the state before, the replies that were still held, the
-    /// state after.
+    /// A flush, at the end of the input and before a barrier: the state before, the replies that
+    /// were still held, the state after.
     ghost ends: { Self → List (List ℕ) → Self → Type 0 };
 
-    /// The bodies that come alone (barriers): held replies are written and flushed before such a body is answered.
-    ghost alone: { List ℕ → Bool };
+    /// The bodies that come alone (barriers): held replies are written and flushed before such a
+    /// body is answered.
+    ghost barrier: { List ℕ → Bool };
 
-    /// Returns whether a body comes alone.
-    fn comes_alone(&self, body: &[u8]) -> bool
-        ensures { result ≡ alone body.now };
+    /// Returns whether a body comes alone, so that held replies have to leave before it.
+    fn is_barrier(&self, body: &[u8]) -> bool
+        ensures { result ≡ barrier body.now };
 
-    /// Answers one body that does not come alone, and writes the replies that are sent then in this framing.
+    /// Answers one body that does not come alone, and writes in this framing the replies that are
+    /// then ready. There may be none. Err: the writer failed.
     fn respond<W: Sink>(
         &mut self,
         framing: Framing,
@@ -43,13 +50,13 @@ pub trait Responder {
     ) -> Result<(), Unwritten>
         requires ready { ready self.old }
         requires unbroken { (W.out writer.old).broken ≡ false }
-        requires together { alone body.now ≡ false }
+        requires together { barrier body.now ≡ false }
         ensures answers { AnswersBody (frames framing) turn result body.now (W.out writer.old) (W.out writer.new) self.old self.new }
         ensures ready { ready self.new };
 
-    /// Answers one body that comes alone, and writes its own reply, if any. No reply is held, and the writer has been
-    /// flushed.
-    fn respond_alone<W: Sink>(
+    /// Answers one body that comes alone, and writes its own reply, if any. No reply is held, and
+    /// the writer has been flushed. Err: the writer failed.
+    fn respond_barrier<W: Sink>(
         &mut self,
         framing: Framing,
         body: &[u8],
@@ -57,26 +64,27 @@ pub trait Responder {
     ) -> Result<(), Unwritten>
         requires ready { ready self.old }
         requires unbroken { (W.out writer.old).broken ≡ false }
-        requires alone { alone body.now ≡ true }
+        requires barrier { barrier body.now ≡ true }
         requires ended { HasEnded ends self.old }
         requires apart { IsHandedOn (W.out writer.old) }
         ensures answers { AnswersOwn (frames framing) turn result body.now (W.out writer.old) (W.out writer.new) self.old self.new }
         ensures ready { ready self.new };
 
-    /// Writes the replies that are still held: the input has ended, or a body comes alone.
-    fn finish<W: Sink>(&mut self, framing: Framing, writer: &mut W) -> Result<(), Unwritten>
+    /// Writes the replies that are still held: the input has ended, or a body comes alone. Err: the
+    /// writer failed, and the replies that were not written are lost.
+    fn flush_held<W: Sink>(&mut self, framing: Framing, writer: &mut W) -> Result<(), Unwritten>
         requires ready { ready self.old }
         requires unbroken { (W.out writer.old).broken ≡ false }
-        ensures finishes { Finishes (frames framing) ends result (W.out writer.old) (W.out writer.new) self.old self.new }
+        ensures finishes { FlushesHeld (frames framing) ends result (W.out writer.old) (W.out writer.new) self.old self.new }
         ensures ready { ready self.new };
 
     /// Ends the session after the writer has failed: the replies that are still held are lost.
-    fn abandon(&mut self)
+    fn drop_held(&mut self)
         requires ready { ready self.old }
-        ensures { Abandons ends self.old self.new };
+        ensures { DropsHeld ends self.old self.new };
 }
 
-/// Where the writer failed, of one client or of many.
+/// The point at which the writer failed, of one client or of many.
 #[derive(Clone, Copy, Debug, PartialEq, Eq)]
 pub enum Loss {
     /// While the reply was written.
@@ -85,26 +93,29 @@ pub enum Loss {
     Undone,
 }
 
-/// How a session went.
+/// The result of a session.
 #[derive(Clone, Copy, Debug, PartialEq, Eq)]
 pub struct Served {
-    /// How many bodies were read and answered.
+    /// The number of bodies that were read and answered.
     pub requests: u64,
     /// Why it ended.
     pub why: End,
 }
 
-/// Serves one client: reads bodies until the input ends, answers each on a writer, and flushes the writer before
-/// every wait for input and at the end. Held replies are written at the end, and before a body that comes alone. If
-/// they cannot be written or flushed then, that body is not executed and not counted.
+/// Serves one client: reads bodies until the input ends, answers each on a writer, and flushes the
+/// writer before every wait for input and at the end. Returns the number of answered bodies, and
+/// why the session ended.
 ///
-/// `last` is the reply, without a length, to a record that is cut or too long. `line` has capacity for the longest
-/// line, and `body` for the longest body, so nothing is allocated here.
+/// Held replies are written at the end, and before a body that comes alone. If they cannot be
+/// written or flushed then, that body is not executed and not counted.
+///
+/// `last` is the reply, without a length, to a record that is cut or too long. `line` has capacity
+/// for the longest line, and `body` for the longest body, so nothing is allocated here.
 pub fn serve<S: Responder, R: Source + Drop, W: Sink>(
     server: &mut S,
     framing: Framing,
     last: &[u8; 16],
-    reader: &mut Ahead<R>,
+    reader: &mut BufferedSource<R>,
     writer: &mut W,
     line: &mut Vec<u8>,
     body: &mut Vec<u8>,
@@ -112,7 +123,7 @@ pub fn serve<S: Responder, R: Source + Drop, W: Sink>(
     requires buffers { HoldLongest (vec_capacity line.now) (vec_capacity body.now) }
     requires ready { S.ready server.old }
     requires unbroken { AreUnbroken (ahead R.input reader.old) (W.out writer.old) }
-    ensures { Session (frames framing) S.alone (step S.alone S.turn S.ends) S.ends last.now (ahead R.input reader.old) (ahead R.input reader.new)
+    ensures { Session (frames framing) S.barrier (step S.barrier S.turn S.ends) S.ends last.now (ahead R.input reader.old) (ahead R.input reader.new)
         (W.out writer.old) (W.out writer.new) server.old server.new result }
 {
     let mut requests = 0u64;
@@ -123,7 +134,7 @@ pub fn serve<S: Responder, R: Source + Drop, W: Sink>(
                 match answer(server, framing, bytes, writer) {
                     Ok(()) => requests += 1,
                     Err(Loss::Answered) => {
-                        server.abandon();
+                        server.drop_held();
                         return Served {
                             requests: requests + 1,
                             why: End::WriteFault,
@@ -142,7 +153,7 @@ pub fn serve<S: Responder, R: Source + Drop, W: Sink>(
                 return Served { requests, why };
             }
             Read::Unwritten => {
-                server.abandon();
+                server.drop_held();
                 return Served {
                     requests,
                     why: End::WriteFault,
@@ -154,16 +165,17 @@ pub fn serve<S: Responder, R: Source + Drop, W: Sink>(
     Served { requests, why }
 }
 
-/// Returns a body of this many bytes: the last that were consumed of the read-ahead buffer, or the first of `body`.
+/// Returns a body of `count` bytes: if `is_ahead` the last that were consumed of the read-ahead
+/// buffer, otherwise the first of `buffer`.
 #[inline(always)]
 fn body_in<'a, R: Source + Drop>(
-    reader: &'a Ahead<R>,
+    reader: &'a BufferedSource<R>,
     buffer: &'a [u8],
     count: usize,
     is_ahead: bool,
 ) -> &'a [u8]
-    requires { Fits (Body count is_ahead) buffer.now (passed reader.now) }
-    ensures { result.now ≡ body_of count is_ahead buffer.now (passed reader.now) }
+    requires { IsBodyAt (Body count is_ahead) buffer.now (passed reader.now) }
+    ensures { result.now ≡ body_of_read count is_ahead buffer.now (passed reader.now) }
 {
     if is_ahead {
         reader.passed(count)
@@ -172,7 +184,8 @@ fn body_in<'a, R: Source + Drop>(
     }
 }
 
-/// Answers a body; if it comes alone, after held replies have left.
+/// Answers a body. If it comes alone, held replies are written and flushed first. Errors: `Undone`
+/// if the writer failed before the body was executed, `Answered` if it failed after that.
 fn answer<S: Responder, W: Sink>(
     server: &mut S,
     framing: Framing,
@@ -181,15 +194,15 @@ fn answer<S: Responder, W: Sink>(
 ) -> Result<(), Loss>
     requires ready { S.ready server.old }
     requires unbroken { (W.out writer.old).broken ≡ false }
-    ensures answers { AnswersNext (frames framing) S.alone S.turn S.ends result body.now (W.out writer.old) (W.out writer.new) server.old server.new }
+    ensures answers { AnswersNext (frames framing) S.barrier S.turn S.ends result body.now (W.out writer.old) (W.out writer.new) server.old server.new }
     ensures ready { S.ready server.new }
 {
-    if server.comes_alone(body) {
+    if server.is_barrier(body) {
         if let Err(_) = part(server, framing, writer) {
             return Err(Loss::Undone);
         }
         return server
-            .respond_alone(framing, body, writer)
+            .respond_barrier(framing, body, writer)
             .map_err(|_| Loss::Answered);
     }
     server
@@ -197,7 +210,7 @@ fn answer<S: Responder, W: Sink>(
         .map_err(|_| Loss::Answered)
 }
 
-/// Writes held replies, and flushes.
+/// Writes held replies, and flushes. Err: the writer failed.
 fn part<S: Responder, W: Sink>(
     server: &mut S,
     framing: Framing,
@@ -208,11 +221,12 @@ fn part<S: Responder, W: Sink>(
     ensures parts { IsParted (frames framing) S.ends result (W.out writer.old) (W.out writer.new) server.old server.new }
     ensures ready { S.ready server.new }
 {
-    server.finish(framing, writer)?;
+    server.flush_held(framing, writer)?;
     writer.deliver()
 }
 
-/// Writes the reply to a record that is no request.
+/// Writes the reply `last` if the session ends by a record that is cut or too long. Err: the writer
+/// failed.
 fn put_last<W: Sink>(
     framing: Framing,
     last: &[u8; 16],
@@ -228,7 +242,7 @@ fn put_last<W: Sink>(
     Ok(())
 }
 
-/// Returns whether an end of the session has a reply.
+/// Returns whether this end of the session has a reply: a record that is cut or too long does.
 fn has_reply(why: End) -> bool
     ensures { result ≡ is_answered why }
 {
@@ -238,7 +252,8 @@ fn has_reply(why: End) -> bool
     }
 }
 
-/// Writes the reply to a record that is no request, flushes, and returns why the session ended.
+/// Writes the reply to a record that is no request, flushes, and returns why the session ended:
+/// `WriteFault` if the writer fails.
 fn hand_on<W: Sink>(framing: Framing, last: &[u8; 16], writer: &mut W, why: End) -> End
     requires unbroken { (W.out writer.old).broken ≡ false }
     ensures { HandsOn (frames framing).spelled result why (last_reply last.now why) (W.out writer.old) (W.out writer.new) }
@@ -252,7 +267,8 @@ fn hand_on<W: Sink>(framing: Framing, last: &[u8; 16], writer: &mut W, why: End)
     }
 }
 
-/// Writes everything that is left to write, flushes, and returns why the session ended.
+/// Writes held replies and the reply of this end, flushes, and returns why the session ended:
+/// `WriteFault` if the writer fails.
 fn close<S: Responder, W: Sink>(
     server: &mut S,
     framing: Framing,
@@ -264,7 +280,7 @@ fn close<S: Responder, W: Sink>(
     requires unbroken { (W.out writer.old).broken ≡ false }
     ensures { Closes (frames framing) S.ends last.now result why (W.out writer.old) (W.out writer.new) server.old server.new }
 {
-    match server.finish(framing, writer) {
+    match server.flush_held(framing, writer) {
         Ok(()) => hand_on(framing, last, writer, why),
         Err(_) => End::WriteFault,
     }

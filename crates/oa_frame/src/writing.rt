@@ -3,18 +3,19 @@ ghost use Rattle.std.specs.Prelude.{◌≡◌, ◌<◌, ◌≤◌, ◌+◌, ◌*
 ghost use Rattle.std.specs.Int.{to_le_bytes, w32};
 ghost use Rattle.hex.specs.Hex.{encode_lower, lower_digits};
 ghost use Rattle.oa_stream.specs.Sink.{Puts};
-ghost use Rattle.oa_frame.specs.Framings.{frames};
+ghost use Rattle.oa_frame.specs.promise.Framings.{frames};
 
 use crate::Framing;
 use oa_stream::{Sink, Unwritten};
 
-/// How many bytes are converted to digits at a time, so that writing allocates nothing.
+/// The number of bytes that are converted to digits at a time, so that writing allocates nothing.
 const PIECE: usize = 128;
 
 /// The greatest number of bytes whose digits are put together with the end of their line.
 const SHORT: usize = 63;
 
-/// Writes a reply, given in two parts: as a line of lower-case digits, or with its length before it.
+/// Writes a reply, given in two parts: as a line of lower-case digits, or with its length in bytes
+/// before it (a little-endian u32). Err: the writer failed.
 #[inline(always)]
 pub fn put_reply<W: Sink>(
     framing: Framing,
@@ -32,7 +33,7 @@ pub fn put_reply<W: Sink>(
     }
 }
 
-/// Writes a reply in two parts as one line of digits.
+/// Writes a reply in two parts as one line of digits. Err: the writer failed.
 #[inline(never)]
 fn put_line<W: Sink>(writer: &mut W, head: &[u8; 16], fields: &[u8]) -> Result<(), Unwritten>
     requires unbroken { (W.out writer.old).broken ≡ false }
@@ -42,7 +43,7 @@ fn put_line<W: Sink>(writer: &mut W, head: &[u8; 16], fields: &[u8]) -> Result<(
     put_rest(writer, fields)
 }
 
-/// Writes the digits of a reply's head.
+/// Writes the digits of a reply's head. Err: the writer failed.
 fn put_head<W: Sink>(writer: &mut W, head: &[u8; 16]) -> Result<(), Unwritten>
     requires unbroken { (W.out writer.old).broken ≡ false }
     ensures { Puts result (W.out writer.old) (W.out writer.new) (encode_lower head.now) }
@@ -52,7 +53,7 @@ fn put_head<W: Sink>(writer: &mut W, head: &[u8; 16]) -> Result<(), Unwritten>
     writer.put(&digits[..2 * head.len()])
 }
 
-/// Writes the digits of bytes, and a line feed.
+/// Writes the digits of bytes, and a line feed. Err: the writer failed.
 fn put_rest<W: Sink>(writer: &mut W, fields: &[u8]) -> Result<(), Unwritten>
     requires unbroken { (W.out writer.old).broken ≡ false }
     ensures { Puts result (W.out writer.old) (W.out writer.new) (encode_lower fields.now ++ 10 ∷ []) }
@@ -64,7 +65,7 @@ fn put_rest<W: Sink>(writer: &mut W, fields: &[u8]) -> Result<(), Unwritten>
     writer.put(b"\n")
 }
 
-/// Writes the digits of at most 63 bytes, and a line feed, in one call.
+/// Writes the digits of at most 63 bytes, and a line feed, in one call. Err: the writer failed.
 fn put_short<W: Sink>(writer: &mut W, fields: &[u8]) -> Result<(), Unwritten>
     requires short { length fields.now ≤ 63 }
     requires unbroken { (W.out writer.old).broken ≡ false }
@@ -75,7 +76,8 @@ fn put_short<W: Sink>(writer: &mut W, fields: &[u8]) -> Result<(), Unwritten>
     writer.put(&line[..end])
 }
 
-/// Puts the digits of bytes and a line feed at the start of a buffer. Returns how many characters they are.
+/// Puts the digits of at most 63 bytes and a line feed at the start of a buffer. Returns the number
+/// of characters.
 fn spell(fields: &[u8], line: &mut [u8; 128]) -> usize
     requires { length fields.now ≤ 63 }
     ensures within { result ≤ 128 }
@@ -87,7 +89,8 @@ fn spell(fields: &[u8], line: &mut [u8; 128]) -> usize
     end + 1
 }
 
-/// Writes the length of a reply in two parts, and both parts.
+/// Writes the length of both parts of a reply together, in 4 bytes, and then the parts. Err: the
+/// writer failed.
 #[inline(always)]
 fn put_record<W: Sink>(writer: &mut W, head: &[u8; 16], fields: &[u8]) -> Result<(), Unwritten>
     requires short { length head.now + length fields.now ≤ 4294967295 }
@@ -99,7 +102,7 @@ fn put_record<W: Sink>(writer: &mut W, head: &[u8; 16], fields: &[u8]) -> Result
     put_some(writer, fields)
 }
 
-/// Writes bytes; without bytes it makes no call.
+/// Writes bytes; without bytes it makes no call. Err: the writer failed.
 #[inline(always)]
 pub fn put_some<W: Sink>(writer: &mut W, bytes: &[u8]) -> Result<(), Unwritten>
     requires unbroken { (W.out writer.old).broken ≡ false }
@@ -111,7 +114,8 @@ pub fn put_some<W: Sink>(writer: &mut W, bytes: &[u8]) -> Result<(), Unwritten>
     writer.put(bytes)
 }
 
-/// Writes the length of a reply in two parts, and the first part.
+/// Writes the length of both parts of a reply together, in 4 bytes, and then the first part. Err:
+/// the writer failed.
 #[inline(always)]
 fn put_front<W: Sink>(writer: &mut W, head: &[u8; 16], fields: &[u8]) -> Result<(), Unwritten>
     requires short { length head.now + length fields.now ≤ 4294967295 }
@@ -123,7 +127,7 @@ fn put_front<W: Sink>(writer: &mut W, head: &[u8; 16], fields: &[u8]) -> Result<
     writer.put(&bytes[..20])
 }
 
-/// Puts the length of a reply in two parts, and the first part, into a buffer.
+/// Puts the length of both parts of a reply together and then the first part into a buffer.
 #[inline(always)]
 fn lay_out(head: &[u8; 16], fields: &[u8], bytes: &mut [u8; 20])
     requires { length head.now + length fields.now ≤ 4294967295 }
@@ -133,7 +137,7 @@ fn lay_out(head: &[u8; 16], fields: &[u8], bytes: &mut [u8; 20])
     bytes[4..20].copy_from_slice(head);
 }
 
-/// Returns the length of two parts as 4 bytes.
+/// Returns the length in bytes of two parts together, as a little-endian u32.
 fn length_bytes(head: &[u8; 16], fields: &[u8]) -> [u8; 4]
     requires { length head.now + length fields.now ≤ 4294967295 }
     ensures { result ≡ to_le_bytes w32 (length (head.now ++ fields.now)) }
@@ -142,6 +146,7 @@ fn length_bytes(head: &[u8; 16], fields: &[u8]) -> [u8; 4]
 }
 
 /// Writes bytes as lower-case hexadecimal digits, at most 128 bytes at a time. Allocates nothing.
+/// Err: the writer failed.
 pub fn put_hex<W: Sink>(writer: &mut W, bytes: &[u8]) -> Result<(), Unwritten>
     requires unbroken { (W.out writer.old).broken ≡ false }
     ensures { Puts result (W.out writer.old) (W.out writer.new) (encode_lower bytes.now) }
@@ -155,7 +160,7 @@ pub fn put_hex<W: Sink>(writer: &mut W, bytes: &[u8]) -> Result<(), Unwritten>
     Ok(())
 }
 
-/// Writes at most 128 bytes as digits.
+/// Writes at most 128 bytes as digits. Err: the writer failed.
 fn put_piece<W: Sink>(writer: &mut W, piece: &[u8]) -> Result<(), Unwritten>
     requires short { length piece.now ≤ 128 }
     requires unbroken { (W.out writer.old).broken ≡ false }
@@ -166,7 +171,7 @@ fn put_piece<W: Sink>(writer: &mut W, piece: &[u8]) -> Result<(), Unwritten>
     writer.put(&digits[..2 * piece.len()])
 }
 
-/// Puts the digits of bytes at the start of a buffer.
+/// Puts the lower-case digits of bytes at the start of a buffer, two for each byte.
 fn encode(piece: &[u8], digits: &mut [u8])
     requires { 2 * length piece.now ≤ length digits.old }
     ensures len { length digits.new ≡ length digits.old }
@@ -180,7 +185,8 @@ fn encode(piece: &[u8], digits: &mut [u8])
     }
 }
 
-/// Returns the digit of a value, by two sums instead of a table, so that the compiler can convert many at a time.
+/// Returns the lower-case digit of a value from 0 to 15. It uses sums instead of a table, so that
+/// the compiler can convert many at a time.
 fn digit(value: u8) -> u8
     requires { value < 16 }
     ensures { result ≡ slice_index lower_digits value }

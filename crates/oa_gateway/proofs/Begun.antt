@@ -1,5 +1,6 @@
 -- Whose requests are in a batch, and when it begins.
-use Rattle.std.proofs.Common.{◌≡◌, ◌≢◌, ◌⊎◌, inl, inr, ◌≤◌, ◌-◌, ℕ, zero, suc, Bool, true, false, if◌then◌else◌, List, [], ◌∷◌, refl, sym, ap, ◌∙◌, subst, arith}
+use Rattle.std.proofs.Common.{◌≡◌, ◌≢◌, ◌⊎◌, inl, inr, ◌≤◌, ◌-◌, ℕ, zero, suc, Bool, true, false, if◌then◌else◌, List, [], ◌∷◌, refl, sym, ap, ◌∙◌, subst}
+use Rattle.std.proofs.Common.{arith}
 use Rattle.std.proofs.lemmas.Bool.{ltb-false, ltb-true}
 use Rattle.std.specs.Prelude.{◌==◌, ◌/◌, nat_lt, Option, Some, None, ⊤}
 use Rattle.oa_gateway.specs.Beginnings.{BeginsSoon, IsFree, begins, has_turns, is_free, longest_pause, pause}
@@ -50,11 +51,13 @@ first_stays Shared e other = absurd (other refl)
 pub others_stay_first : (e : Exclusion) (w : Waiting) → whose e w ≢ Shared → (behind_batch (whose e w) e).others_first ≡ e.others_first
 others_stay_first e w other = first_stays (whose e w) e other
 
-held_waits : (holder exclusive shared : Bool) → WaitsFor (if holder then Holder else Nobody) (record { holder = holder; exclusive = exclusive; shared = shared })
+held_waits : (holder exclusive shared : Bool)
+    → WaitsFor (if holder then Holder else Nobody) (record { holder = holder; exclusive = exclusive; shared = shared })
 held_waits true exclusive shared = refl
 held_waits false exclusive shared = tt
 
-free_waits : (first holder exclusive shared : Bool) → WaitsFor (whose_if_free first (record { holder = holder; exclusive = exclusive; shared = shared })) (record { holder = holder; exclusive = exclusive; shared = shared })
+free_waits : (first holder exclusive shared : Bool) → WaitsFor (whose_if_free first (record { holder = holder; exclusive = exclusive; shared = shared }))
+    (record { holder = holder; exclusive = exclusive; shared = shared })
 free_waits true holder true true = refl
 free_waits true holder true false = refl
 free_waits false holder true shared = refl
@@ -134,7 +137,8 @@ waits_exclusive true true = refl
 waits_exclusive true false = refl
 waits_exclusive false shared = refl
 
-pub begins_for_all : (m : Moment) (e : Exclusion) (w : Waiting) → IsFree m → e.is_held ≡ false → (w.shared ≡ true) ⊎ (w.exclusive ≡ true) → BeginsSoon m (whose e w)
+pub begins_for_all : (m : Moment) (e : Exclusion) (w : Waiting) → IsFree m → e.is_held ≡ false → (w.shared ≡ true) ⊎ (w.exclusive ≡ true)
+    → BeginsSoon m (whose e w)
 begins_for_all m e w free nobody (inl some) = with_turns m (whose e w) (free_now m free) (rw (nobody, some) (waits_shared e.others_first w.exclusive))
 begins_for_all m e w free nobody (inr some) = with_turns m (whose e w) (free_now m free) (rw (nobody, some) (waits_exclusive e.others_first w.shared))
 

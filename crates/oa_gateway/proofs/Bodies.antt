@@ -1,13 +1,15 @@
 -- The bodies of requests.
-use Rattle.std.proofs.Common.{◌≡◌, ◌⊎◌, inl, inr, ◌<◌, ◌≤◌, ℕ, ◌+◌, List, [], ◌∷◌, ◌++◌, length, take, drop, take-take, refl, sym, ap, ◌∙◌, subst, arith, append_assoc}
+use Rattle.std.proofs.Common.{◌≡◌, ◌⊎◌, inl, inr, ◌<◌, ◌≤◌, ℕ, ◌+◌, List, [], ◌∷◌, ◌++◌, length, take, drop, take-take, refl, sym, ap, ◌∙◌, subst, arith}
+use Rattle.std.proofs.Common.{append_assoc}
 use Rattle.std.proofs.lemmas.List.{append-nil, length-drop, length-take-le, take-append-drop}
 use Rattle.std.proofs.Math.Seq.{take-add}
 use Rattle.std.specs.Int.{w32, from_le_bytes}
-use Rattle.oa_model.specs.Limits.{max_request_bytes}
-use Rattle.oa_frame.specs.Framings.{NextRecord, records}
-use Rattle.oa_frame.specs.Sessions.{Bodies}
-use Rattle.oa_share.specs.Readers.{IsPartRecord, IsWholeRecord, said}
-use Rattle.oa_gateway.specs.Requests.{AreRequests, EndsRequests}
+use Rattle.oa_model.specs.promise.Limits.{max_request_bytes}
+use Rattle.oa_frame.specs.promise.Framings.{NextRecord, records}
+use Rattle.oa_frame.specs.promise.Sessions.{Bodies}
+use Rattle.oa_mux.specs.Readers.{IsPartRecord, IsWholeRecord}
+use Rattle.oa_mux.specs.promise.Readers.{said}
+use Rattle.oa_gateway.specs.WholeRequests.{AreRequests, EndsRequests}
 
 -- a body and what follows it, and some bytes more
 next_then : (bytes body rest back : List ℕ) → NextRecord bytes body rest → NextRecord (bytes ++ back) body (rest ++ back)
@@ -23,7 +25,8 @@ bodies_then : (bytes rest back : List ℕ) (bodies : List (List ℕ)) → Bodies
 bodies_then bytes rest back [] h = ap (λ l. l ++ back) h
 bodies_then bytes rest back (b ∷ bodies) h = (h.0 ++ back, next_then bytes b h.0 back h.1, bodies_then h.0 rest back bodies h.2)
 
-bodies_more : (bytes mid rest : List ℕ) (bodies : List (List ℕ)) (body : List ℕ) → Bodies records bytes bodies mid → NextRecord mid body rest → Bodies records bytes (bodies ++ body ∷ []) rest
+bodies_more : (bytes mid rest : List ℕ) (bodies : List (List ℕ)) (body : List ℕ) → Bodies records bytes bodies mid → NextRecord mid body rest
+    → Bodies records bytes (bodies ++ body ∷ []) rest
 bodies_more bytes mid rest [] body h n = (rest, subst (λ l. NextRecord l body rest) (sym h) n, refl)
 bodies_more bytes mid rest (b ∷ bodies) body h n = (h.0, h.1, bodies_more h.0 mid rest bodies body h.2 n)
 
@@ -57,8 +60,10 @@ requests_more bytes whole count w h =
       subst (λ l. AreRequests l (h.0 ++ drop 4 one ∷ [])) (sym (take-add whole count bytes)) (one_more (take whole bytes) one h.0 h.1 w),
     )
 
-pub whole_more : (bytes rest : List ℕ) (whole count : ℕ) → rest ≡ drop whole bytes → whole ≤ length bytes → (count ≤ length rest) × IsWholeRecord (take count rest)
-    → ((bodies : List (List ℕ)) × AreRequests (take whole bytes) bodies) → (whole + count ≤ length bytes) × ((bodies : List (List ℕ)) × AreRequests (take (whole + count) bytes) bodies)
+pub whole_more : (bytes rest : List ℕ) (whole count : ℕ) → rest ≡ drop whole bytes → whole ≤ length bytes → (count ≤ length rest)
+    × IsWholeRecord (take count rest)
+    → ((bodies : List (List ℕ)) × AreRequests (take whole bytes) bodies) → (whole + count ≤ length bytes)
+    × ((bodies : List (List ℕ)) × AreRequests (take (whole + count) bytes) bodies)
 whole_more bytes rest whole count e within w h =
     let len = length-drop whole bytes in
     let same = ap length e in
@@ -77,7 +82,8 @@ some_bytes bytes count room w =
 said_part : (bytes : List ℕ) (n : ℕ) → 4 ≤ n → said (take n bytes) ≡ said bytes
 said_part bytes n h = ap (from_le_bytes w32) (take-take 4 n bytes h)
 
-pub is_whole : (bytes : List ℕ) (n : ℕ) → n ≡ said bytes → 0 < n → n ≤ max_request_bytes → 4 + n ≤ length bytes → (4 + n ≤ length bytes) × IsWholeRecord (take (4 + n) bytes)
+pub is_whole : (bytes : List ℕ) (n : ℕ) → n ≡ said bytes → 0 < n → n ≤ max_request_bytes → 4 + n ≤ length bytes → (4 + n ≤ length bytes)
+    × IsWholeRecord (take (4 + n) bytes)
 is_whole bytes n e some short room =
     let s : said (take (4 + n) bytes) ≡ said bytes = said_part bytes (4 + n) (omega arith) in (
       room,

@@ -1,6 +1,8 @@
 -- The queue in its array.
-use Rattle.std.proofs.Common.{◌≡◌, ◌<◌, ◌≤◌, ℕ, suc, ◌+◌, ◌-◌, List, [], ◌∷◌, ◌++◌, length, take, drop, set, get_or, refl, sym, ap, ◌∙◌, append_assoc, length-append, arith, take_at}
-use Rattle.std.proofs.lemmas.List.{drop-append-le, drop-drop, drop-set-lt, drop_at, drop_more, get_or-set_same, length-set, length-take-le, take-append-drop, take-append-le, take-set, take-take, take_more_set}
+use Rattle.std.proofs.Common.{◌≡◌, ◌<◌, ◌≤◌, ℕ, suc, ◌+◌, ◌-◌, List, [], ◌∷◌, ◌++◌, length, take, drop, set, get_or, refl, sym, ap, ◌∙◌, append_assoc}
+use Rattle.std.proofs.Common.{length-append, arith, take_at}
+use Rattle.std.proofs.lemmas.List.{drop-append-le, drop-drop, drop-set-lt, drop_at, drop_more, get_or-set_same, length-set, length-take-le, take-append-drop}
+use Rattle.std.proofs.lemmas.List.{take-append-le, take-set, take-take, take_more_set}
 use Rattle.std.proofs.lemmas.Bool.{le-ltb, ltb-false}
 use Rattle.std.proofs.lemmas.List.Edits.{between_more, length-between}
 use Rattle.std.proofs.lemmas.Slice.{between_from_start, between_is}
@@ -8,7 +10,7 @@ use Rattle.std.specs.List.{between}
 use Rattle.std.specs.Prelude.{◌↔◌, false}
 use Rattle.oa_gateway.specs.Exclusive.{waits}
 use Rattle.oa_gateway.proofs.Queued.{clients}
-use Rattle.oa_gateway.specs.Queues.{Clients, IsQueue, IsWithout, goes_on, joined, queue_of, turn_of}
+use Rattle.oa_gateway.specs.Queues.{ClientQueue, IsQueue, IsWithout, enqueued, goes_on, queue_of, turn_of}
 use Rattle.oa_gateway.specs.declared.queue.NextTurn.{NextTurn}
 use Rattle.oa_gateway.specs.declared.queue.NextTurn.TheVariants.{Never, Last, Kept}
 use Rattle.oa_gateway.specs.declared.queue.Queue.{Queue}
@@ -116,20 +118,22 @@ pub has_gone : (xs : List ℕ) (q : Queue) (next : NextTurn) → q.next < q.end 
     → queue_of (record { kept = q.kept; next = q.next + 1; end = q.end }) xs ≡ turn_of (queue_of q xs) next
 has_gone xs q next some within is = rw is (sym (never_again (take q.kept xs) xs q.next q.end some (omega (arith, some, within))))
 
-pub is_last : (xs : List ℕ) (q : Queue) (next : NextTurn) (all : Clients) → q.next < q.end → q.end ≤ length xs → next ≡ Last
-    → all ≡ joined (get_or xs q.next 0) (queue_of (record { kept = q.kept; next = q.next + 1; end = q.end }) xs) → all ≡ turn_of (queue_of q xs) next
+pub is_last : (xs : List ℕ) (q : Queue) (next : NextTurn) (all : ClientQueue) → q.next < q.end → q.end ≤ length xs → next ≡ Last
+    → all ≡ enqueued (get_or xs q.next 0) (queue_of (record { kept = q.kept; next = q.next + 1; end = q.end }) xs) → all ≡ turn_of (queue_of q xs) next
 is_last xs q next all some within is it = it ∙ rw is (sym (last_again (take q.kept xs) xs q.next q.end some (omega (arith, some, within))))
 
 pub is_kept : (xs : List ℕ) (q : Queue) (next : NextTurn) → q.kept ≤ q.next → q.next < q.end → q.end ≤ length xs → next ≡ Kept
     → queue_of (record { kept = q.kept + 1; next = q.next + 1; end = q.end }) (set xs q.kept (get_or xs q.next 0)) ≡ turn_of (queue_of q xs) next
 is_kept xs q next before some within is =
     let one = get_or xs q.next 0 in
-    clients_are _ _ _ _ (take_more_set xs q.kept one (omega (arith, before, some, within))) (others_same xs q.kept (q.next + 1) q.end one (omega (arith, before)))
+    clients_are _ _ _ _ (take_more_set xs q.kept one (omega (arith, before, some, within)))
+    (others_same xs q.kept (q.next + 1) q.end one (omega (arith, before)))
     ∙ rw is (sym (keeps (take q.kept xs) xs q.next q.end some (omega (arith, some, within))))
 
 pub has_left : (xs ys : List ℕ) (q : Queue) (client at : ℕ) → q.kept ≤ q.next → q.next ≤ at → at < q.end → q.end ≤ length xs → get_or xs at 0 ≡ client
     → ys ≡ drop 1 (between at q.end xs) ++ take 1 (between at q.end xs)
-    → IsWithout client (queue_of q xs) (queue_of (record { kept = q.kept; next = q.next; end = q.end - 1 }) (take at xs ++ (ys ++ drop (q.end - at) (drop at xs))))
+    → IsWithout client (queue_of q xs) (queue_of (record { kept = q.kept; next = q.next; end = q.end - 1 })
+    (take at xs ++ (ys ++ drop (q.end - at) (drop at xs))))
 has_left xs ys q client at before after some within is it = rw it (record {
   kept = before_same xs at q.end 1 q.kept (omega (arith, before, after)) (omega (arith, some, within));
   front = between q.next at xs;

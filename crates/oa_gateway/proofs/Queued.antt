@@ -1,22 +1,25 @@
 -- In which order clients have their turns.
-use Rattle.std.proofs.Common.{◌≡◌, ◌≢◌, ◌≤◌, ℕ, Bool, true, false, if◌then◌else◌, suc, ◌+◌, List, [], ◌∷◌, ◌++◌, length, refl, sym, ap, ◌∙◌, subst, append_assoc, append-nil, length-append, arith}
-use Rattle.oa_gateway.specs.Queues.{Clients, IsBehind, IsNotOvertaken, IsWithout, Waits, after_turns, begun, count_kept, joined, next_batch, next_turn, turn_of}
+use Rattle.std.proofs.Common.{◌≡◌, ◌≢◌, ◌≤◌, ℕ, Bool, true, false, if◌then◌else◌, suc, ◌+◌, List, [], ◌∷◌, ◌++◌, length, refl, sym, ap, ◌∙◌, subst}
+use Rattle.std.proofs.Common.{append_assoc, append-nil, length-append, arith}
+use Rattle.oa_gateway.specs.Queues.{ClientQueue, IsNotOvertaken, IsQueuedBehind, IsWithout, WaitsInQueue, after_turns, begun_queue, count_kept, enqueued}
+use Rattle.oa_gateway.specs.Queues.{next_batch, next_turn, turn_of}
 use Rattle.oa_gateway.specs.declared.queue.NextTurn.{NextTurn}
 use Rattle.oa_gateway.specs.declared.queue.NextTurn.TheVariants.{Never, Last, Kept}
 
-abbrev pub clients : List ℕ → List ℕ → Clients
+abbrev pub clients : List ℕ → List ℕ → ClientQueue
 clients kept waiting = record { kept = kept; waiting = waiting }
 
 -- after these turns: the clients that were before it, fewer by one for each turn, and those that have the first turns of the next batch
-pub record Nearer (client before : ℕ) (turns : List NextTurn) (kept : List ℕ) (q : Clients) : Type 0 where
+pub record Nearer (client before : ℕ) (turns : List NextTurn) (kept : List ℕ) (q : ClientQueue) : Type 0 where
   front : List ℕ
   back : List ℕ
   there : q.waiting ≡ front ++ client ∷ back
   count : length front + length turns ≡ before
   ahead : length q.kept ≡ length kept + count_kept turns
 
-one_less : (client before : ℕ) (next : NextTurn) (turns : List NextTurn) (less more : List ℕ) (q : Clients)
-    → length more + count_kept turns ≡ length less + count_kept (next ∷ turns) → Nearer client before turns more q → Nearer client (suc before) (next ∷ turns) less q
+one_less : (client before : ℕ) (next : NextTurn) (turns : List NextTurn) (less more : List ℕ) (q : ClientQueue)
+    → length more + count_kept turns ≡ length less + count_kept (next ∷ turns) → Nearer client before turns more q
+    → Nearer client (suc before) (next ∷ turns) less q
 one_less client before next turns less more q few n =
     let count = n.count in
     record { front = n.front; back = n.back; there = n.there; count = omega (arith, count); ahead = n.ahead ∙ few }
@@ -32,7 +35,8 @@ nearer client [] back kept (next ∷ turns) few = absurd (omega (arith, few))
 nearer client (b ∷ before) back kept (Never ∷ turns) few =
     one_less client (length before) Never turns kept kept _ refl (nearer client before back kept turns (omega (arith, few)))
 nearer client (b ∷ before) back kept (Kept ∷ turns) few =
-    one_less client (length before) Kept turns kept (kept ++ b ∷ []) _ (longer kept b (count_kept turns)) (nearer client before back (kept ++ b ∷ []) turns (omega (arith, few)))
+    one_less client (length before) Kept turns kept (kept ++ b ∷ []) _ (longer kept b (count_kept turns))
+    (nearer client before back (kept ++ b ∷ []) turns (omega (arith, few)))
 nearer client (b ∷ before) back kept (Last ∷ turns) few =
     one_less client (length before) Last turns kept kept _ refl
     (subst (λ w. Nearer client (length before) turns kept (after_turns (clients kept w) turns)) (sym (append_assoc before (client ∷ back) (b ∷ [])))
@@ -40,8 +44,8 @@ nearer client (b ∷ before) back kept (Last ∷ turns) few =
 
 -- ---- as it is stated
 
-pub gets_its_turn : (client before : ℕ) (all : List ℕ) (turns : List NextTurn) → IsBehind client before all → length turns ≤ before
-    → Waits client before all turns
+pub gets_its_turn : (client before : ℕ) (all : List ℕ) (turns : List NextTurn) → IsQueuedBehind client before all → length turns ≤ before
+    → WaitsInQueue client before all turns
 gets_its_turn client before all turns is few =
     let n = nearer client is.front is.back [] turns (subst (λ k. length turns ≤ k) (sym is.count) few) in
     let m = subst (λ w. Nearer client (length is.front) turns [] (after_turns (clients [] w) turns)) (sym is.there) n in
@@ -51,7 +55,7 @@ gets_its_turn client before all turns is few =
       there = record { front = m.front; back = m.back; there = m.there; count = refl };
     }
 
-pub keeps_its_place : (client before : ℕ) (all : List ℕ) (turns : List NextTurn) → IsBehind client before all → length turns ≤ before
+pub keeps_its_place : (client before : ℕ) (all : List ℕ) (turns : List NextTurn) → IsQueuedBehind client before all → length turns ≤ before
     → IsNotOvertaken client before all turns
 keeps_its_place client before all turns is few =
     let n = nearer client is.front is.back [] turns (subst (λ k. length turns ≤ k) (sym is.count) few) in
@@ -83,11 +87,11 @@ kept_had_nothing false took e = absurd cc
 -- ---- a client whose own turn got nothing
 
 -- what is kept stays so, in its place
-record KeptOn (kept : List ℕ) (q : Clients) : Type 0 where
+record KeptOn (kept : List ℕ) (q : ClientQueue) : Type 0 where
   later : List ℕ
   are : q.kept ≡ kept ++ later
 
-kept_more : (kept : List ℕ) (b : ℕ) (q : Clients) → KeptOn (kept ++ b ∷ []) q → KeptOn kept q
+kept_more : (kept : List ℕ) (b : ℕ) (q : ClientQueue) → KeptOn (kept ++ b ∷ []) q → KeptOn kept q
 kept_more kept b q is = record { later = b ∷ is.later; are = is.are ∙ append_assoc kept (b ∷ []) is.later }
 
 kept_on : (kept waiting : List ℕ) (turns : List NextTurn) → KeptOn kept (after_turns (clients kept waiting) turns)
@@ -98,7 +102,7 @@ kept_on kept (b ∷ waiting) (Never ∷ turns) = kept_on kept waiting turns
 kept_on kept (b ∷ waiting) (Last ∷ turns) = kept_on kept (waiting ++ b ∷ []) turns
 kept_on kept (b ∷ waiting) (Kept ∷ turns) = kept_more kept b _ (kept_on (kept ++ b ∷ []) waiting turns)
 
-turns_two : (q : Clients) (turns more : List NextTurn) → after_turns q (turns ++ more) ≡ after_turns (after_turns q turns) more
+turns_two : (q : ClientQueue) (turns more : List NextTurn) → after_turns q (turns ++ more) ≡ after_turns (after_turns q turns) more
 unfolding after_turns
 turns_two q [] more = refl
 turns_two q (next ∷ turns) more = turns_two (turn_of q next) turns more
@@ -111,8 +115,8 @@ none_before : (front : List ℕ) (n b : ℕ) → length front + n ≡ b → n �
 none_before [] n b is same = refl
 none_before (x ∷ front) n b is same = absurd (omega (arith, is, same))
 
-pub keeps_its_turn : (client before : ℕ) (all : List ℕ) (turns more : List NextTurn) → IsBehind client before all → length turns ≡ before
-    → IsBehind client (count_kept turns) (next_batch (after_turns (begun all) (turns ++ Kept ∷ more)))
+pub keeps_its_turn : (client before : ℕ) (all : List ℕ) (turns more : List NextTurn) → IsQueuedBehind client before all → length turns ≡ before
+    → IsQueuedBehind client (count_kept turns) (next_batch (after_turns (begun_queue all) (turns ++ Kept ∷ more)))
 keeps_its_turn client before all turns more is same =
     let total = is.count in
     let n = nearer client is.front is.back [] turns (omega (arith, same, total)) in
@@ -120,14 +124,16 @@ keeps_its_turn client before all turns more is same =
     let q = after_turns (clients [] all) turns in
     let none : m.front ≡ [] = none_before m.front (length turns) (length is.front) m.count (same ∙ sym total) in
     let own : q.waiting ≡ client ∷ m.back = m.there ∙ ap (λ (l : List ℕ). l ++ client ∷ m.back) none in
-    let on = subst (λ (w : List ℕ). KeptOn (q.kept ++ client ∷ []) (after_turns (clients q.kept w) (Kept ∷ more))) (sym own) (kept_first client m.back q.kept more) in
-    let last = subst (λ (r : Clients). KeptOn (q.kept ++ client ∷ []) r) (sym (turns_two (clients [] all) turns (Kept ∷ more))) on in
+    let on = subst (λ (w : List ℕ). KeptOn (q.kept ++ client ∷ []) (after_turns (clients q.kept w) (Kept ∷ more))) (sym own)
+    (kept_first client m.back q.kept more) in
+    let last = subst (λ (r : ClientQueue). KeptOn (q.kept ++ client ∷ []) r) (sym (turns_two (clients [] all) turns (Kept ∷ more))) on in
     let end = after_turns (clients [] all) (turns ++ Kept ∷ more) in
     let ahead = m.ahead in
     record {
       front = q.kept;
       back = last.later ++ end.waiting;
-      there = ap (λ (l : List ℕ). l ++ end.waiting) last.are ∙ append_assoc (q.kept ++ client ∷ []) last.later end.waiting ∙ append_assoc q.kept (client ∷ []) (last.later ++ end.waiting);
+      there = ap (λ (l : List ℕ). l ++ end.waiting) last.are ∙ append_assoc (q.kept ++ client ∷ []) last.later end.waiting
+          ∙ append_assoc q.kept (client ∷ []) (last.later ++ end.waiting);
       count = omega (arith, ahead);
     }
 
@@ -137,7 +143,8 @@ still_waits false e = cc
 
 -- ---- others join and leave
 
-pub still_behind : (client other before : ℕ) (q : Clients) → IsBehind client before q.waiting → IsBehind client before (joined other q).waiting
+pub still_behind : (client other before : ℕ) (q : ClientQueue) → IsQueuedBehind client before q.waiting
+    → IsQueuedBehind client before (enqueued other q).waiting
 still_behind client other before q is = record {
   front = is.front;
   back = is.back ++ other ∷ [];
@@ -152,7 +159,8 @@ record Left (client most : ℕ) (rest : List ℕ) : Type 0 where
   there : rest ≡ front ++ client ∷ back
   few : length front ≤ most
 
-one_gone : (client other : ℕ) (front back before behind : List ℕ) → client ≢ other → front ++ client ∷ back ≡ before ++ other ∷ behind → Left client (length front) (before ++ behind)
+one_gone : (client other : ℕ) (front back before behind : List ℕ) → client ≢ other → front ++ client ∷ back ≡ before ++ other ∷ behind
+    → Left client (length front) (before ++ behind)
 one_gone client other [] back [] behind apart is = absurd (apart cc)
 one_gone client other [] back (y ∷ before) behind apart is =
     let same : client ≡ y = cc in
@@ -167,8 +175,8 @@ one_gone client other (x ∷ front) back (y ∷ before) behind apart is =
     let few = more.few in
     record { front = y ∷ more.front; back = more.back; there = ap (λ (l : List ℕ). y ∷ l) more.there; few = omega (arith, few) }
 
-pub waits_nearer : (client other before : ℕ) (old new : Clients) → IsBehind client before old.waiting → client ≢ other → IsWithout other old new
-    → (left : ℕ) × (left ≤ before) × IsBehind client left new.waiting
+pub waits_nearer : (client other before : ℕ) (old new : ClientQueue) → IsQueuedBehind client before old.waiting → client ≢ other → IsWithout other old new
+    → (left : ℕ) × (left ≤ before) × IsQueuedBehind client left new.waiting
 waits_nearer client other before old new is apart without =
     let gone = one_gone client other is.front is.back without.front without.back apart (sym is.there ∙ without.before) in
     let few = gone.few in

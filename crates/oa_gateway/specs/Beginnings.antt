@@ -5,7 +5,7 @@ use Rattle.oa_gateway.specs.declared.beginning.Moment.{Moment}
 use Rattle.oa_gateway.specs.declared.exclusive.Whose.{Whose}
 use Rattle.oa_gateway.specs.declared.exclusive.Whose.TheVariants.{Nobody, Holder, NextHolder, Shared}
 
--- The server serves, and has answered everything; no backup keeps it waiting.
+-- The server serves, and has answered everything; it waits for no backup.
 abbrev pub is_free : Moment → Bool
 is_free m = if m.is_up then (if m.in_flight then false else if m.is_held then false else true) else false
 
@@ -14,8 +14,8 @@ pub record IsFree (m : Moment) : Type 0 where
   pub answered : m.in_flight ≡ false
   pub unheld : m.is_held ≡ false
 
--- Clients that were answered mostly ask again at once: after a batch the next one waits for them, for a quarter of the
--- time that a batch takes, at most two milliseconds.
+-- Clients that were answered mostly send a request again at once. So after a batch the next one
+-- waits for them, for a quarter of the time that a batch takes, at most two milliseconds.
 abbrev pub longest_pause : ℕ
 longest_pause = 2000000
 
@@ -34,7 +34,7 @@ abbrev pub begins : Moment → Whose → Option ℕ
 begins m w = if is_free m then (if has_turns w then Some (pause m) else if m.ends_wait then Some (pause m) else None)
     else None
 
--- a batch begins without anything else, at most so long after the last one was answered
+-- a batch begins without anything else, at most this time after the last one was answered
 pub record BeginsSoon (m : Moment) (w : Whose) : Type 0 where
   pub after : ℕ
   pub begins : begins m w ≡ Some after

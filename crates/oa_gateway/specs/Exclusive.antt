@@ -6,14 +6,14 @@ use Rattle.oa_gateway.specs.declared.exclusive.Whose.{Whose}
 use Rattle.oa_gateway.specs.declared.exclusive.Whose.TheVariants.{Nobody, Holder, NextHolder, Shared}
 use Rattle.oa_gateway.specs.declared.queue.Queue.{Queue}
 
--- The next exclusive client has the server to itself, if one waits; but after another one had it, shared clients that
--- wait have a batch before.
+-- The next exclusive client has the server to itself, if one waits. But after another one had it,
+-- shared clients that wait have a batch first.
 abbrev pub whose_if_free : Bool → Waiting → Whose
 whose_if_free others_first w = if w.exclusive
     then (if others_first then (if w.shared then Shared else NextHolder) else NextHolder)
     else if w.shared then Shared else Nobody
 
--- While an exclusive client has it, all requests are those of this client.
+-- While an exclusive client has the server to itself, all requests are those of this client.
 abbrev pub whose : Exclusion → Waiting → Whose
 whose e w = if e.is_held then (if w.holder then Holder else Nobody) else whose_if_free e.others_first w
 
@@ -28,7 +28,8 @@ behind_batch Shared e = record { is_held = e.is_held; others_first = false }
 abbrev pub behind_holder : Exclusion → Exclusion
 behind_holder e = record { is_held = false; others_first = true }
 
--- who waits, in the queue of the client that has the server to itself, of other exclusive clients, and of shared ones
+-- The kinds of clients that wait. The queues are those of the client that has the server to itself,
+-- of other exclusive clients, and of shared ones.
 abbrev pub waits : Queue → Bool
 waits q = nat_lt q.next q.end
 

@@ -1,4 +1,4 @@
-pub mod Requests
+pub mod WholeRequests
 pub mod Places
 pub mod Frames
 pub mod Hearing

@@ -1,20 +1,22 @@
--- What is done with one number of the server, which serves one client of the gateway after another. (This project's
--- choice.)
+-- The deeds for one number of the server, which serves one client of the gateway after another.
+-- (This project's choice.)
 use Rattle.std.specs.Prelude.{◌≡◌, ◌⊎◌, ◌<◌, ℕ, ◌+◌, ◌-◌, ◌==◌, if◌then◌else◌, List, [], ◌∷◌, length}
 use Rattle.std.specs.Prelude.{slice_index_or, ⊤}
-use Rattle.oa_share.specs.Marks.{StreamPiece, Last, pieces}
-use Rattle.oa_gateway.specs.declared.place.Place.{Place}
+use Rattle.oa_mux.specs.promise.Marks.{StreamPiece, Last}
+use Rattle.oa_mux.specs.Marks.{pieces}
+use Rattle.oa_gateway.specs.declared.place.NumberState.{NumberState}
 use Rattle.oa_gateway.specs.declared.place.Standing.{Standing}
 use Rattle.oa_gateway.specs.declared.place.Standing.TheVariants.{Absent, Present, Ending, Over}
 
--- the state of the number's present client at the server, and how many ends the server owes to clients that had the
--- number before and have gone
+-- the state of the number's present client at the server, and the number of ends that the server
+-- owes to clients that had the number before and have gone
 pub record Number : Type 0 where
   pub standing : Standing
   pub owed : ℕ
 
--- What is done: some bytes of the client are sent; nothing more comes of it; it has gone, and the number is the next
--- one's; the server has a frame of replies for the number; it has the frame of an end.
+-- The deeds. Some bytes of the client are sent; it sends nothing more; it has gone, and the number
+-- is the next client's. The server sends a frame of replies for the number; it sends the frame of
+-- an end.
 pub data Deed : Type 0 where
   Sends : List ℕ → Deed
   Closes : Deed
@@ -66,8 +68,8 @@ owes owed s Leaves = owed + owes_more s
 owes owed s (Hears bytes) = owed
 owes owed s HearsEnd = owed - 1
 
-abbrev pub after : Number → Deed → Number
-after n deed = record { standing = stands n.owed n.standing deed; owed = owes n.owed n.standing deed }
+abbrev pub after_deed : Number → Deed → Number
+after_deed n deed = record { standing = stands n.owed n.standing deed; owed = owes n.owed n.standing deed }
 
 -- what goes to the server for the number
 abbrev pub puts : Standing → Deed → List StreamPiece
@@ -84,8 +86,8 @@ puts Present HearsEnd = []
 puts Ending deed = []
 puts Over deed = []
 
--- What becomes of a frame of the server: its replies go to the client that has the number now, or its end does; it is
--- of a client that has gone; or there is nobody whose it could be.
+-- The decision on a frame of the server. Its replies or its end go to the client that has the
+-- number now; it is for a client that has gone; or it is for no client.
 pub data Told : Type 0 where
   Given : List ℕ → Told
   Ended : Told
@@ -105,12 +107,12 @@ hears_own_end Ending = Ended
 hears_own_end Over = Wrong
 
 -- the server answers the clients of a number one after another, each up to its end
-abbrev pub told : Number → Deed → Told
-told n (Sends bytes) = Dropped
-told n Closes = Dropped
-told n Leaves = Dropped
-told n (Hears bytes) = if n.owed == 0 then hears_own n.standing bytes else Dropped
-told n HearsEnd = if n.owed == 0 then hears_own_end n.standing else Dropped
+abbrev pub deed_outcome : Number → Deed → Told
+deed_outcome n (Sends bytes) = Dropped
+deed_outcome n Closes = Dropped
+deed_outcome n Leaves = Dropped
+deed_outcome n (Hears bytes) = if n.owed == 0 then hears_own n.standing bytes else Dropped
+deed_outcome n HearsEnd = if n.owed == 0 then hears_own_end n.standing else Dropped
 
 -- ---- as a place keeps it
 
@@ -118,10 +120,10 @@ abbrev pub standing_of : ℕ → Standing
 standing_of presence = if presence == 0 then Absent else if presence == 1 then Present
     else if presence == 2 then Ending else Over
 
-abbrev pub number_of : Place → Number
-number_of place = record { standing = standing_of place.presence; owed = place.owed }
+abbrev pub place_number : NumberState → Number
+place_number place = record { standing = standing_of place.presence; owed = place.owed }
 
--- another server was started: it owes nothing, and of a client that was there nothing more is sent
+-- another server was started: it owes nothing, and receives nothing more of a client that was there
 abbrev pub begins_again : Standing → Standing
 begins_again Absent = Absent
 begins_again Present = Over
@@ -131,7 +133,7 @@ begins_again Over = Over
 abbrev pub restarted : Number → Number
 restarted n = record { standing = begins_again n.standing; owed = 0 }
 
-pub record AllRestarted (old new : List Place) : Type 0 where
+pub record AllRestarted (old new : List NumberState) : Type 0 where
   pub count : length new ≡ length old
-  pub each : (at : ℕ) (other : Place) → at < length old
-      → number_of (slice_index_or new at other) ≡ restarted (number_of (slice_index_or old at other))
+  pub each : (at : ℕ) (other : NumberState) → at < length old
+      → place_number (slice_index_or new at other) ≡ restarted (place_number (slice_index_or old at other))

@@ -1,32 +1,33 @@
--- What is done with numbers, over any list of deeds. (This project's choice.)
+-- Numbers over any list of deeds. (This project's choice.)
 use Rattle.std.specs.Prelude.{◌≡◌, ◌⊎◌, ℕ, zero, suc, ◌+◌, List, [], ◌∷◌, ◌++◌, ⊤}
-use Rattle.oa_share.specs.Frames.{InHead, items_in}
-use Rattle.oa_share.specs.Marks.{Byte, Last, Now, Of, Owned, States, StreamPiece, named, pieces, put_at}
+use Rattle.oa_mux.specs.promise.Frames.{InHead, pieces_in}
+use Rattle.oa_mux.specs.promise.Marks.{Byte, Flush, Last, Of, States, StreamPiece, Tagged, tag_all, with_state_at}
+use Rattle.oa_mux.specs.Marks.{pieces}
 use Rattle.oa_gateway.specs.Frames.{gateway_number}
 use Rattle.oa_gateway.specs.Places.{Closes, Deed, Dropped, Ended, Given, Hears, HearsEnd, Leaves, MayDo, Number, Sends}
-use Rattle.oa_gateway.specs.Places.{Told, Wrong, after, puts, told}
+use Rattle.oa_gateway.specs.Places.{Told, Wrong, after_deed, deed_outcome, puts}
 use Rattle.oa_gateway.specs.declared.place.Standing.{Standing}
 use Rattle.oa_gateway.specs.declared.place.Standing.TheVariants.{Absent, Present, Ending, Over}
 
 -- ---- one number
 
-unfoldable pub behind : Number → List Deed → Number
-behind n [] = n
-behind n (deed ∷ deeds) = behind (after n deed) deeds
+unfoldable pub after_deeds : Number → List Deed → Number
+after_deeds n [] = n
+after_deeds n (deed ∷ deeds) = after_deeds (after_deed n deed) deeds
 
 -- what goes to the server for it
 unfoldable pub stream : Number → List Deed → List StreamPiece
 stream n [] = []
-stream n (deed ∷ deeds) = puts n.standing deed ++ stream (after n deed) deeds
+stream n (deed ∷ deeds) = puts n.standing deed ++ stream (after_deed n deed) deeds
 
 unfoldable pub AllMayBeDone : Number → List Deed → Type 0
 AllMayBeDone n [] = ⊤
-AllMayBeDone n (deed ∷ deeds) = MayDo n deed × AllMayBeDone (after n deed) deeds
+AllMayBeDone n (deed ∷ deeds) = MayDo n deed × AllMayBeDone (after_deed n deed) deeds
 
--- no frame of the server was nobody's
+-- each frame of the server was for a client
 unfoldable pub IsSound : Number → List Deed → Type 0
 IsSound n [] = ⊤
-IsSound n (deed ∷ deeds) = (told n deed ≡ Wrong → ⊥) × IsSound (after n deed) deeds
+IsSound n (deed ∷ deeds) = (deed_outcome n deed ≡ Wrong → ⊥) × IsSound (after_deed n deed) deeds
 
 -- ---- one client, which has the number from the first deed on until it leaves
 
@@ -36,16 +37,17 @@ given_of Ended = []
 given_of Dropped = []
 given_of Wrong = []
 
--- what it is given
-unfoldable pub given : Number → List Deed → List ℕ
-given n [] = []
-given n (Sends bytes ∷ deeds) = given (after n (Sends bytes)) deeds
-given n (Closes ∷ deeds) = given (after n Closes) deeds
-given n (Leaves ∷ deeds) = []
-given n (Hears bytes ∷ deeds) = given_of (told n (Hears bytes)) ++ given (after n (Hears bytes)) deeds
-given n (HearsEnd ∷ deeds) = given (after n HearsEnd) deeds
+-- what the client gets
+unfoldable pub given_bytes : Number → List Deed → List ℕ
+given_bytes n [] = []
+given_bytes n (Sends bytes ∷ deeds) = given_bytes (after_deed n (Sends bytes)) deeds
+given_bytes n (Closes ∷ deeds) = given_bytes (after_deed n Closes) deeds
+given_bytes n (Leaves ∷ deeds) = []
+given_bytes n (Hears bytes ∷ deeds) = given_of (deed_outcome n (Hears bytes)) ++ given_bytes
+    (after_deed n (Hears bytes)) deeds
+given_bytes n (HearsEnd ∷ deeds) = given_bytes (after_deed n HearsEnd) deeds
 
--- what the server says for the number after so many more ends, up to the next one
+-- what the server sends for the number after this number of further ends, up to the next one
 unfoldable pub said_behind : ℕ → List Deed → List ℕ
 said_behind ends [] = []
 said_behind ends (Sends bytes ∷ deeds) = said_behind ends deeds
@@ -69,25 +71,26 @@ sent [] = []
 sent (deed ∷ deeds) = sent_by deed ++ sent deeds
 
 -- it is there all the time
-abbrev pub Stays : Deed → Type 0
-Stays (Sends bytes) = ⊤
-Stays Closes = ⊤
-Stays Leaves = ⊥
-Stays (Hears bytes) = ⊤
-Stays HearsEnd = ⊤
+abbrev pub StaysPresent : Deed → Type 0
+StaysPresent (Sends bytes) = ⊤
+StaysPresent Closes = ⊤
+StaysPresent Leaves = ⊥
+StaysPresent (Hears bytes) = ⊤
+StaysPresent HearsEnd = ⊤
 
 unfoldable pub StaysThere : List Deed → Type 0
 StaysThere [] = ⊤
-StaysThere (deed ∷ deeds) = Stays deed × StaysThere deeds
+StaysThere (deed ∷ deeds) = StaysPresent deed × StaysThere deeds
 
--- The stream of a client of which this was sent: none, its bytes, or its bytes and one end.
+-- The stream of a client of which these bytes were sent: nothing, the bytes, or the bytes and one
+-- end.
 abbrev pub IsItsStream : Standing → List ℕ → List StreamPiece → Type 0
 IsItsStream Absent bytes all = (bytes ≡ []) × (all ≡ [])
 IsItsStream Present bytes all = all ≡ pieces bytes
 IsItsStream Ending bytes all = all ≡ pieces bytes ++ Last ∷ []
 IsItsStream Over bytes all = ((bytes ≡ []) × (all ≡ [])) ⊎ (all ≡ pieces bytes ++ Last ∷ [])
 
--- The stream of one that has gone: none, or its bytes and one end.
+-- The stream of one that has gone: nothing, or the bytes and one end.
 abbrev pub IsWholeStream : List ℕ → List StreamPiece → Type 0
 IsWholeStream bytes all = ((bytes ≡ []) × (all ≡ [])) ⊎ (all ≡ pieces bytes ++ Last ∷ [])
 
@@ -124,13 +127,14 @@ all_owed n = own_end n.standing + n.owed
 
 -- ---- all numbers
 
--- what goes to the server for all, in the order in which it is done; after a batch the gateway ends, and says *now*
-unfoldable pub streams : States Number → List (Owned Deed) → List (Owned StreamPiece)
+-- what goes to the server for all numbers, in order; after a batch the gateway ends, and sends
+-- *now*
+unfoldable pub streams : States Number → List (Tagged Deed) → List (Tagged StreamPiece)
 streams numbers [] = []
-streams numbers (Of number deed ∷ deeds) = named number (puts (numbers number).standing deed)
-    ++ streams (put_at number (after (numbers number) deed) numbers) deeds
-streams numbers (Now ∷ deeds) = Of gateway_number Last ∷ Now ∷ streams numbers deeds
+streams numbers (Of number deed ∷ deeds) = tag_all number (puts (numbers number).standing deed)
+    ++ streams (with_state_at number (after_deed (numbers number) deed) numbers) deeds
+streams numbers (Flush ∷ deeds) = Of gateway_number Last ∷ Flush ∷ streams numbers deeds
 
--- these bytes, taken apart as the server does, are these pieces, whatever follows
-abbrev pub Says : List ℕ → List (Owned StreamPiece) → Type 0
-Says bytes all = (rest : List ℕ) → items_in (InHead []) (bytes ++ rest) ≡ all ++ items_in (InHead []) rest
+-- demultiplexed as by the server, these bytes are these pieces, whatever follows
+abbrev pub Says : List ℕ → List (Tagged StreamPiece) → Type 0
+Says bytes all = (rest : List ℕ) → pieces_in (InHead []) (bytes ++ rest) ≡ all ++ pieces_in (InHead []) rest

@@ -4,10 +4,10 @@ ghost use Rattle.oa_gateway.specs.Beginnings.{begins, has_turns, is_free, pause}
 
 use crate::exclusive::Whose;
 
-/// The longest pause after a batch.
+/// The longest pause after a batch, in nanoseconds.
 const LONGEST_PAUSE: u64 = 2_000_000;
 
-/// The state of the server, and how long a batch takes.
+/// The state of the server, and how long a batch takes. Times are in nanoseconds.
 #[repr(C)]
 #[derive(Clone, Copy, Debug, PartialEq, Eq)]
 pub struct Moment {
@@ -15,20 +15,20 @@ pub struct Moment {
     pub is_up: bool,
     /// Whether it has a batch that it has not answered.
     pub in_flight: bool,
-    /// Whether a backup keeps it waiting.
+    /// Whether it waits for a backup.
     pub is_held: bool,
     /// Whether the end of a client was sent since the last batch.
     pub ends_wait: bool,
-    /// How many clients were answered by the last batch, and have asked nothing since.
+    /// The number of clients that were answered by the last batch, and have asked nothing since.
     pub awaited: usize,
-    /// For how long the last batch has been answered.
+    /// The time since the last batch was answered.
     pub since: u64,
-    /// How long a batch takes, about.
+    /// The time that a batch takes, about.
     pub took: u64,
 }
 
 impl Moment {
-    /// Whether the server serves, and has answered everything.
+    /// Returns whether the server serves, and has answered everything.
     fn is_free(&self) -> bool
         ensures { result ≡ is_free self.now }
     {
@@ -41,7 +41,8 @@ impl Moment {
         !self.is_held
     }
 
-    /// For how much longer the next batch waits for clients that were just answered.
+    /// Returns for how many nanoseconds the next batch still waits for clients that were just
+    /// answered.
     fn pause(&self) -> u64
         ensures { result ≡ pause self.now }
     {
@@ -56,7 +57,8 @@ impl Moment {
         }
     }
 
-    /// In how many nanoseconds a batch begins if nothing else happens before; None if none does. `whose` are the requests that wait for it.
+    /// Returns the number of nanoseconds after which a batch begins if nothing else happens before;
+    /// None if none begins. `whose` are the requests that wait for it.
     pub fn begins_in(&self, whose: Whose) -> Option<u64>
         ensures { result ≡ begins self.now whose }
     {
@@ -74,7 +76,7 @@ impl Moment {
     }
 }
 
-/// Whether a batch of these has requests.
+/// Returns whether a batch of these clients has requests.
 fn has_turns(whose: Whose) -> bool
     ensures { result ≡ has_turns whose }
 {

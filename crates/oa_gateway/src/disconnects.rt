@@ -2,26 +2,29 @@
 ghost use Rattle.std.specs.Prelude.{◌≡◌, IfSome, IsNone};
 ghost use Rattle.oa_gateway.specs.Disconnects.{AllHaveRead, IsHeaviest, gives_way, judged};
 
-/// How long a client with unread replies may read nothing when replies use more than half of the memory.
+/// The time in milliseconds for which a client with unread replies may read nothing when replies
+/// use more than half of the memory.
 const MOMENT: u64 = 1_000;
 
-/// How much of its replies a client has not read, and for how long it has been silent.
+/// The unread replies of a client, and the time for which it has been silent. Times are in
+/// milliseconds.
 #[repr(C)]
 #[derive(Clone, Copy, Debug, PartialEq, Eq)]
 pub struct Conduct {
-    /// How many bytes of replies it has not read.
+    /// The number of bytes of replies that it has not read.
     pub unread: usize,
-    /// For how long it has read none of them.
+    /// The time for which it has read none of them.
     pub unread_for: u64,
-    /// For how long it has sent nothing and read nothing.
+    /// The time for which it has sent nothing and read nothing.
     pub silent: u64,
-    /// For how long the gateway has been reading a request that is still incomplete; 0 if there is none.
+    /// The time for which the gateway has been reading a request that is still incomplete; 0 if
+    /// there is none.
     pub incomplete_for: u64,
     /// Whether no request of it waits or is with the server.
     pub asks_nothing: bool,
 }
 
-/// How long a client may take.
+/// The time that a client may take, in milliseconds.
 #[repr(C)]
 #[derive(Clone, Copy, Debug, PartialEq, Eq)]
 pub struct Patience {
@@ -63,8 +66,9 @@ pub fn judge(conduct: &Conduct, patience: &Patience) -> Verdict
     Verdict::Stays
 }
 
-/// Whether a client is disconnected since replies need its memory: `lacks` is whether a request waits for such memory, and `used` is how many bytes of
-/// `memory` replies have.
+/// Returns whether a client is disconnected because replies need its memory. `lacks` is whether a
+/// request waits for such memory. Replies have `used` bytes of the `memory` bytes that they may
+/// have.
 pub fn must_give_way(conduct: &Conduct, used: usize, memory: usize, lacks: bool) -> bool
     ensures { result ≡ gives_way conduct.now used memory lacks }
 {
@@ -79,7 +83,9 @@ pub fn must_give_way(conduct: &Conduct, used: usize, memory: usize, lacks: bool)
     conduct.unread_for > MOMENT
 }
 
-/// The client with the most bytes of unread replies, by its number; None if all have read theirs.
+/// Returns the number of the client with the most unread replies; None if all have read theirs.
+/// `unread[n]` is the number of bytes that client n has not read. If several have the most, it is
+/// the lowest number.
 pub fn heaviest(unread: &[usize]) -> Option<usize>
     ensures some { IfSome result (λ i. IsHeaviest unread.now i) }
     ensures none { IsNone result → AllHaveRead unread.now }

@@ -8,13 +8,13 @@ use crate::queue::Queue;
 #[repr(C)]
 #[derive(Clone, Copy, Debug, PartialEq, Eq)]
 pub struct Exclusion {
-    /// One has it.
+    /// One has the server to itself.
     pub is_held: bool,
-    /// One had it, and since then no batch was that of shared clients.
+    /// One had the server to itself, and since then no batch was that of shared clients.
     pub others_first: bool,
 }
 
-/// Which clients have requests that wait.
+/// The kinds of clients with requests that wait.
 #[repr(C)]
 #[derive(Clone, Copy, Debug, PartialEq, Eq)]
 pub struct Waiting {
@@ -26,7 +26,7 @@ pub struct Waiting {
     pub shared: bool,
 }
 
-/// Whose requests are in a batch.
+/// The clients whose requests are in a batch.
 #[derive(Clone, Copy, Debug, PartialEq, Eq)]
 pub enum Whose {
     /// There are none.
@@ -77,7 +77,7 @@ impl Exclusion {
         found
     }
 
-    /// The exclusive client that had the server to itself has gone.
+    /// Notes that the exclusive client that had the server to itself has gone.
     pub fn let_go(&mut self)
         ensures { self.new ≡ behind_holder self.old }
     {
@@ -86,7 +86,8 @@ impl Exclusion {
     }
 }
 
-/// Returns who waits, in the queue of the client that has the server to itself, of other exclusive clients, and of shared ones.
+/// Returns the kinds of clients that wait. `own` is the queue of the client that has the server to
+/// itself, `exclusive` that of other exclusive clients, and `shared` that of shared ones.
 pub fn waiting_in(own: &Queue, exclusive: &Queue, shared: &Queue) -> Waiting
     ensures { result ≡ waiting_in own.now exclusive.now shared.now }
 {
@@ -97,7 +98,7 @@ pub fn waiting_in(own: &Queue, exclusive: &Queue, shared: &Queue) -> Waiting
     }
 }
 
-/// Whether a client waits in a queue.
+/// Returns whether a client waits in a queue.
 fn waits(queue: &Queue) -> bool
     ensures { result ≡ waits queue.now }
 {

@@ -5,22 +5,23 @@ ghost use Rattle.oa_gateway.specs.Frames.{gateway_number};
 ghost use Rattle.oa_gateway.specs.Places.{AllRestarted};
 
 use crate::frames::GATEWAY;
-use crate::place::{Fate, Place};
+use crate::place::{Fate, NumberState};
 
 /// The decision on the first frame of the server's bytes.
 #[derive(Clone, Copy, Debug, PartialEq, Eq)]
 pub enum Heard {
     /// It has not come whole.
     More,
-    /// It is the gateway's own end: all that was asked before is answered.
+    /// It is the gateway's own end: all earlier requests are answered.
     Answered,
-    /// Its replies, of so many bytes after its head, go to this client.
+    /// Its replies, `count` bytes after its head, go to this client.
     Given { client: u32, count: usize },
-    /// It is the end of this client, which gets nothing more.
+    /// It is the end of this client, which receives nothing more.
     Ended(u32),
-    /// It has so many bytes after its head, and is of a client that had this number before and has gone.
+    /// It has `count` bytes after its head, and is for a client that had this number before and has
+    /// gone.
     Dropped { client: u32, count: usize },
-    /// It is of no client that there is or was.
+    /// It is for no client that there is or was.
     Wrong,
 }
 
@@ -31,8 +32,9 @@ struct Frame {
     count: usize,
 }
 
-/// Hears the first frame of the server's bytes, for the client to whose number it is.
-pub fn hear(places: &mut [Place], bytes: &[u8]) -> Heard
+/// Decides on the first frame of the server's bytes, and updates the state of its number.
+/// `places[n]` is the state of number n.
+pub fn hear(places: &mut [NumberState], bytes: &[u8]) -> Heard
     ensures { Hearing result bytes.now places.old places.new }
 {
     let Some(frame) = first_frame(bytes) else {
@@ -51,8 +53,8 @@ pub fn hear(places: &mut [Place], bytes: &[u8]) -> Heard
     }
 }
 
-/// Hears so many bytes of replies for a number.
-fn hear_replies(places: &[Place], client: u32, count: usize) -> Heard
+/// Decides on `count` bytes of replies for a number.
+fn hear_replies(places: &[NumberState], client: u32, count: usize) -> Heard
     requires { client < length places.now }
     ensures { (inside : List ℕ) → length inside ≡ count → HeardReplies result client inside places.now }
 {
@@ -63,8 +65,8 @@ fn hear_replies(places: &[Place], client: u32, count: usize) -> Heard
     }
 }
 
-/// Hears an end for a number.
-fn hear_end(places: &mut [Place], client: u32) -> Heard
+/// Decides on an end for a number, and updates the state of the number.
+fn hear_end(places: &mut [NumberState], client: u32) -> Heard
     requires { client < length places.old }
     ensures { HeardEnd result client places.old places.new }
 {
@@ -75,7 +77,7 @@ fn hear_end(places: &mut [Place], client: u32) -> Heard
     }
 }
 
-/// The first frame of some bytes, if it has come whole.
+/// Returns the first frame of some bytes; None if it has not come whole.
 fn first_frame(bytes: &[u8]) -> Option<Frame>
     ensures none { IsNone result → IsPartFrame bytes.now }
     ensures some { IfSome result (λ f. (8 + f.count ≤ length bytes.now) × FirstFrame bytes.now f.number (slice_range bytes.now 8 (8 + f.count))) }
@@ -91,8 +93,9 @@ fn first_frame(bytes: &[u8]) -> Option<Frame>
     Some(Frame { number, count })
 }
 
-/// The server has ended, and another one was started: it owes nothing, and of the clients that were there nothing is sent to it.
-pub fn restart(places: &mut [Place])
+/// Notes that the server has ended, and that another one was started. The new server owes nothing.
+/// It receives nothing of the clients that were there.
+pub fn restart(places: &mut [NumberState])
     ensures { AllRestarted places.old places.new }
 {
     for at in 0..places.len() {

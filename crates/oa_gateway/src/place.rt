@@ -1,19 +1,19 @@
 //! A number of the server, which serves one client of the gateway after another.
 ghost use Rattle.std.specs.Prelude.{◌≡◌, ◌<◌, ◌≤◌, length, IfSome, IsNone, IsSome};
-ghost use Rattle.oa_gateway.specs.Frames.{Puts, gateway_number, room_for};
-ghost use Rattle.oa_gateway.specs.Places.{Closes, HearsEnd, Leaves, MayDo, Sends, after, number_of, restarted};
+ghost use Rattle.oa_gateway.specs.Frames.{PutsDeed, gateway_number, room_for};
+ghost use Rattle.oa_gateway.specs.Places.{Closes, HearsEnd, Leaves, MayDo, Sends, after_deed, place_number, restarted};
 ghost use Rattle.oa_gateway.specs.Hearing.{Becomes, EndBecomes};
 ghost use Rattle.oa_gateway.specs.declared.place.Fate.TheVariants as fate;
 
 use crate::frames::{GATEWAY, put_bytes, put_last};
 
-/// `Place::presence` of a client of which nothing was sent.
+/// `Place::presence` of a client of which no bytes were sent to the server.
 pub const ABSENT: u32 = 0;
-/// Of one of which something was sent.
+/// `Place::presence` of a client of which some bytes were sent.
 pub const PRESENT: u32 = 1;
-/// Of one whose end was sent.
+/// `Place::presence` of a client whose end was sent, too.
 pub const ENDING: u32 = 2;
-/// Of a client that sends and receives nothing more.
+/// `Place::presence` of a client that sends and receives nothing more.
 pub const OVER: u32 = 3;
 
 /// The state of a number's client at the server.
@@ -45,17 +45,18 @@ pub enum Fate {
 /// The state of a number.
 #[repr(C)]
 #[derive(Clone, Copy, Debug, PartialEq, Eq)]
-pub struct Place {
-    /// The state of its present client: `ABSENT`, `PRESENT`, `ENDING`, and `OVER` or any other number.
+pub struct NumberState {
+    /// The state of its present client: `ABSENT`, `PRESENT`, `ENDING`, and `OVER` or any other
+    /// number.
     pub presence: u32,
-    /// How many ends the server owes to clients that had the number before and have gone.
+    /// The number of ends that the server owes to clients that had the number before and have gone.
     pub owed: u32,
 }
 
-impl Place {
-    /// Returns the state of its client.
+impl NumberState {
+    /// Returns the state of the number's present client.
     pub fn standing(&self) -> Standing
-        ensures { result ≡ (number_of self.now).standing }
+        ensures { result ≡ (place_number self.now).standing }
     {
         match self.presence {
             0 => Standing::Absent,
@@ -65,12 +66,13 @@ impl Place {
         }
     }
 
-    /// Sends bytes of the client: puts their frames at the beginning of `out`, and returns how many bytes these are. None, and nothing is done, if the
-    /// client has had its end, if `number` is none of a client, or if `out` may have too little room.
+    /// Sends bytes of the client: puts their frames at the beginning of `out`, and returns the
+    /// number of bytes of these. None, and nothing is done, in three cases: the client has had its
+    /// end, `number` is not one of a client, or `out` may be too short.
     pub fn send(&mut self, number: u32, bytes: &[u8], out: &mut [u8]) -> Option<usize>
-        ensures some { IfSome result (λ n. Puts (Sends bytes.now) number n out.new (number_of self.old) (number_of self.new)) }
+        ensures some { IfSome result (λ n. PutsDeed (Sends bytes.now) number n out.new (place_number self.old) (place_number self.new)) }
         ensures none { IsNone result → self.new ≡ self.old }
-        ensures succeeds { MayDo (number_of self.old) (Sends bytes.now) → number < gateway_number → room_for (length bytes.now) ≤ length out.old → IsSome result }
+        ensures succeeds { MayDo (place_number self.old) (Sends bytes.now) → number < gateway_number → room_for (length bytes.now) ≤ length out.old → IsSome result }
     {
         if number >= GATEWAY {
             return None;
@@ -83,11 +85,12 @@ impl Place {
         }
     }
 
-    /// Sends bytes of a client that has not had its end.
+    /// Sends bytes of a client that has not had its end. Returns the number of bytes of the frames;
+    /// None if `out` may be too short.
     fn put(&mut self, number: u32, bytes: &[u8], out: &mut [u8]) -> Option<usize>
         requires client { number < gateway_number }
-        requires may { MayDo (number_of self.old) (Sends bytes.now) }
-        ensures some { IfSome result (λ n. Puts (Sends bytes.now) number n out.new (number_of self.old) (number_of self.new)) }
+        requires may { MayDo (place_number self.old) (Sends bytes.now) }
+        ensures some { IfSome result (λ n. PutsDeed (Sends bytes.now) number n out.new (place_number self.old) (place_number self.new)) }
         ensures none { IsNone result → (self.new ≡ self.old) × (length out.old < room_for (length bytes.now)) }
     {
         let count = put_bytes(number, bytes, out)?;
@@ -95,10 +98,11 @@ impl Place {
         Some(count)
     }
 
-    /// Nothing more comes of the client. If some of its bytes were sent, its end is put at the beginning of `out`; returns how many bytes go to the server,
-    /// 8 or 0. None, and nothing is done, if `number` is none of a client, or if `out` has too little room.
+    /// Ends the client's stream. If some of its bytes were sent, its end is put at the beginning of
+    /// `out`. Returns the number of bytes for the server, 8 or 0. None, and nothing is done, if
+    /// `number` is not one of a client, or if `out` is too short.
     pub fn close(&mut self, number: u32, out: &mut [u8]) -> Option<usize>
-        ensures some { IfSome result (λ n. Puts Closes number n out.new (number_of self.old) (number_of self.new)) }
+        ensures some { IfSome result (λ n. PutsDeed Closes number n out.new (place_number self.old) (place_number self.new)) }
         ensures none { IsNone result → self.new ≡ self.old }
         ensures succeeds { number < gateway_number → 8 ≤ length out.old → IsSome result }
     {
@@ -120,11 +124,14 @@ impl Place {
         }
     }
 
-    /// The client has gone, and the number is the next one's. If some of its bytes were sent, and its end was not, that is put at the beginning of `out`;
-    /// returns how many bytes go to the server, 8 or 0. None, and nothing is done, if `number` is none of a client, if `out` has too little room, or if
-    /// the server owes 2^32 - 1 ends.
+    /// Notes that the client has gone: the number is the next client's. If some of its bytes were
+    /// sent, and its end was not, that is put at the beginning of `out`. Returns the number of
+    /// bytes for the server, 8 or 0.
+    ///
+    /// None, and nothing is done, in three cases: `number` is not one of a client, `out` is too
+    /// short, or the server owes 2^32 - 1 ends.
     pub fn leave(&mut self, number: u32, out: &mut [u8]) -> Option<usize>
-        ensures some { IfSome result (λ n. Puts Leaves number n out.new (number_of self.old) (number_of self.new)) }
+        ensures some { IfSome result (λ n. PutsDeed Leaves number n out.new (place_number self.old) (place_number self.new)) }
         ensures none { IsNone result → self.new ≡ self.old }
         ensures succeeds { number < gateway_number → 8 ≤ length out.old → self.old.owed < 4294967295 → IsSome result }
     {
@@ -135,7 +142,7 @@ impl Place {
             Standing::Absent => Some(0),
             Standing::Present => {
                 let end = put_last(number, out)?;
-                *self = Place {
+                *self = NumberState {
                     presence: ABSENT,
                     owed: self.owed + 1,
                 };
@@ -153,9 +160,9 @@ impl Place {
         }
     }
 
-    /// The server has replies for the number.
+    /// Decides on replies of the server for the number.
     pub(crate) fn hear(&self) -> Fate
-        ensures { Becomes result (number_of self.now) }
+        ensures { Becomes result (place_number self.now) }
     {
         if self.owed != 0 {
             return Fate::Dropped;
@@ -166,10 +173,10 @@ impl Place {
         }
     }
 
-    /// The server has an end for the number.
+    /// Decides on an end that the server has sent for the number, and updates the state.
     pub(crate) fn hear_end(&mut self) -> Fate
-        ensures told { EndBecomes result (number_of self.old) }
-        ensures goes { number_of self.new ≡ after (number_of self.old) HearsEnd }
+        ensures told { EndBecomes result (place_number self.old) }
+        ensures goes { place_number self.new ≡ after_deed (place_number self.old) HearsEnd }
         ensures wrong { result ≡ fate.Wrong → self.new ≡ self.old }
     {
         if self.owed > 0 {
@@ -183,15 +190,15 @@ impl Place {
         }
     }
 
-    /// Another server was started.
+    /// Notes that another server was started: it owes no ends, and a present client is over.
     pub(crate) fn restart(&mut self)
-        ensures { number_of self.new ≡ restarted (number_of self.old) }
+        ensures { place_number self.new ≡ restarted (place_number self.old) }
     {
         let presence = if self.presence == ABSENT {
             ABSENT
         } else {
             OVER
         };
-        *self = Place { presence, owed: 0 };
+        *self = NumberState { presence, owed: 0 };
     }
 }

@@ -1,20 +1,22 @@
 //! In which order clients have their turns.
 ghost use Rattle.std.specs.Prelude.{◌≡◌, ◌<◌, ◌≤◌, ◌+◌, ◌-◌, ℕ, true, false, length, slice_get, slice_index, IfSome, IsNone};
-ghost use Rattle.oa_gateway.specs.Queues.{HasRoom, IsQueue, IsWithout, begun, joined, next_batch, next_turn, queue_of, turn_of};
+ghost use Rattle.oa_gateway.specs.Queues.{HasQueueRoom, IsQueue, IsWithout, begun_queue, enqueued, next_batch, next_turn, queue_of, turn_of};
 
 /// The queue of clients that wait for turns, by their numbers in an array that the caller lends.
+/// Its fields are places in that array.
 #[repr(C)]
 #[derive(Clone, Copy, Debug, PartialEq, Eq)]
 pub struct Queue {
-    /// How many clients at the beginning of the array have the first turns of the next batch.
+    /// The number of clients at the beginning of the array, which have the first turns of the next
+    /// batch.
     pub kept: usize,
-    /// Where the clients begin that wait for turns in this batch.
+    /// The place of the first client that waits for a turn in this batch.
     pub next: usize,
-    /// Where they end.
+    /// The place after the last such client.
     pub end: usize,
 }
 
-/// When a client has its next turn.
+/// The next turn of a client.
 #[derive(Clone, Copy, Debug, PartialEq, Eq)]
 pub enum NextTurn {
     /// It has no request that waits.
@@ -25,7 +27,8 @@ pub enum NextTurn {
     Kept,
 }
 
-/// When a client has its next turn, after one: `waits` is whether it has more requests, and `took` whether the batch took some of them in this turn.
+/// Returns the next turn of a client after one. `waits` is whether it has more requests, and `took`
+/// whether the batch took some of them in this turn.
 fn next_turn_of(waits: bool, took: bool) -> NextTurn
     ensures { result ≡ next_turn waits took }
 {
@@ -39,7 +42,7 @@ fn next_turn_of(waits: bool, took: bool) -> NextTurn
 }
 
 impl Queue {
-    /// Whether it is one in an array of so many places.
+    /// Returns whether this is a queue in an array of `places` places.
     fn is_in(&self, places: usize) -> bool
         ensures yes { result ≡ true → IsQueue self.now places }
         ensures no { result ≡ false → IsQueue self.now places → ⊥ }
@@ -53,7 +56,8 @@ impl Queue {
         self.end <= places
     }
 
-    /// Moves the clients that wait for turns in this batch down, to those that have the first turns of the next one.
+    /// Moves the clients that wait for turns in this batch down, to those that have the first turns
+    /// of the next one.
     fn close_up(&mut self, places: &mut [u32])
         requires { IsQueue self.old (length places.old) }
         ensures same { queue_of self.new places.new ≡ queue_of self.old places.old }
@@ -68,11 +72,12 @@ impl Queue {
         self.end -= gap;
     }
 
-    /// A client waits for its turn, after all others. Returns `false`, and nothing is done, if the array has no place for it, or if the queue is none in this array.
+    /// Adds a client with this number, which waits for its turn after all others. Returns `false`,
+    /// and nothing is done, if the array has no place for it, or if this is no queue in the array.
     pub fn join(&mut self, places: &mut [u32], client: u32) -> bool
-        ensures done { result ≡ true → queue_of self.new places.new ≡ joined client (queue_of self.old places.old) }
+        ensures done { result ≡ true → queue_of self.new places.new ≡ enqueued client (queue_of self.old places.old) }
         ensures not { result ≡ false → (self.new ≡ self.old) × (places.new ≡ places.old) }
-        ensures succeeds { HasRoom self.old (length places.old) → result ≡ true }
+        ensures succeeds { HasQueueRoom self.old (length places.old) → result ≡ true }
         ensures queue { result ≡ true → IsQueue self.new (length places.new) }
     {
         if !self.is_in(places.len()) {
@@ -88,18 +93,19 @@ impl Queue {
         true
     }
 
-    /// A client waits for its turn, after all others.
+    /// Adds a client after all others, at a place that is free.
     fn add(&mut self, places: &mut [u32], client: u32)
         requires queue { IsQueue self.old (length places.old) }
         requires room { self.old.end < length places.old }
-        ensures done { queue_of self.new places.new ≡ joined client (queue_of self.old places.old) }
+        ensures done { queue_of self.new places.new ≡ enqueued client (queue_of self.old places.old) }
         ensures queue { IsQueue self.new (length places.new) }
     {
         places[self.end] = client;
         self.end += 1;
     }
 
-    /// The client that has the next turn of this batch; None if nobody waits for one.
+    /// Returns the number of the client that has the next turn of this batch; None if nobody waits
+    /// for one.
     pub fn first(&self, places: &[u32]) -> Option<u32>
         ensures { result ≡ slice_get (queue_of self.now places.now).waiting 0 }
     {
@@ -110,8 +116,9 @@ impl Queue {
         }
     }
 
-    /// The first client has had its turn: `waits` is whether it has more requests, and `took` whether the batch took some of them. Returns `false`, and nothing is
-    /// done, if the queue is none in this array.
+    /// Notes that the first client has had its turn. `waits` is whether it has more requests, and
+    /// `took` whether the batch took some of them. Returns `false`, and nothing is done, if this is
+    /// no queue in the array.
     pub fn had_turn(&mut self, places: &mut [u32], waits: bool, took: bool) -> bool
         ensures done { result ≡ true → queue_of self.new places.new ≡ turn_of (queue_of self.old places.old) (next_turn waits took) }
         ensures not { result ≡ false → (self.new ≡ self.old) × (places.new ≡ places.old) }
@@ -127,7 +134,7 @@ impl Queue {
         true
     }
 
-    /// The first client has had its turn, and has its next one then.
+    /// Ends the turn of the first client, whose next one is `turn`.
     fn go_on(&mut self, places: &mut [u32], turn: NextTurn)
         requires queue { IsQueue self.old (length places.old) }
         requires some { self.old.next < self.old.end }
@@ -148,9 +155,10 @@ impl Queue {
         }
     }
 
-    /// The batch is made: all clients wait for turns in the next one. Returns `false`, and nothing is done, if the queue is none in this array.
+    /// Ends a batch: all clients wait for turns in the next one. Returns `false`, and nothing is
+    /// done, if this is no queue in the array.
     pub fn renew(&mut self, places: &mut [u32]) -> bool
-        ensures done { result ≡ true → queue_of self.new places.new ≡ begun (next_batch (queue_of self.old places.old)) }
+        ensures done { result ≡ true → queue_of self.new places.new ≡ begun_queue (next_batch (queue_of self.old places.old)) }
         ensures not { result ≡ false → (self.new ≡ self.old) × (places.new ≡ places.old) }
         ensures succeeds { IsQueue self.old (length places.old) → result ≡ true }
         ensures queue { result ≡ true → IsQueue self.new (length places.new) }
@@ -166,7 +174,8 @@ impl Queue {
         true
     }
 
-    /// A client has gone, and waits no more. Returns `false`, and nothing is done, if it waits for no turn in this batch, or if the queue is none in this array.
+    /// Removes the client with this number, which has gone. Returns `false`, and nothing is done,
+    /// if it waits for no turn in this batch, or if this is no queue in the array.
     pub fn remove(&mut self, places: &mut [u32], client: u32) -> bool
         ensures done { result ≡ true → IsWithout client (queue_of self.old places.old) (queue_of self.new places.new) }
         ensures not { result ≡ false → (self.new ≡ self.old) × (places.new ≡ places.old) }
@@ -185,7 +194,8 @@ impl Queue {
         true
     }
 
-    /// Where a client is that waits for a turn in this batch.
+    /// Returns the place in the array of a client that waits for a turn in this batch; None if it
+    /// does not.
     fn find(&self, places: &[u32], client: u32) -> Option<usize>
         requires { IsQueue self.now (length places.now) }
         ensures some { IfSome result (λ at. (self.now.next ≤ at) × (at < self.now.end) × (slice_index places.now at ≡ client)) }

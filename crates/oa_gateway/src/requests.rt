@@ -1,22 +1,23 @@
-//! Where the requests in a client's bytes end.
-ghost use Rattle.oa_gateway.specs.Requests.{CutsAt, IsNext};
+//! The ends of the requests in a client's bytes.
+ghost use Rattle.oa_gateway.specs.WholeRequests.{CutsAt, IsNextRequest};
 
-/// The most bytes of a request, its length apart.
+/// The greatest number of bytes of a request without its length.
 const MOST: usize = oa_model::MAX_REQUEST_BYTES as usize;
 
 /// The whole requests at the beginning of some bytes.
 #[derive(Clone, Copy, Debug, PartialEq, Eq)]
-pub struct Requests {
-    /// How many bytes they are.
+pub struct WholeRequests {
+    /// The number of their bytes.
     pub whole: usize,
-    /// Whether the four bytes after them are no length of a request: 0, or above the limit. No request follows then.
+    /// Whether the four bytes after them are no length of a request: 0, or above the limit. No
+    /// request follows then.
     pub ends: bool,
 }
 
 /// The beginning of some bytes.
 #[derive(Clone, Copy)]
 enum Next {
-    /// A whole request, of so many bytes with its length.
+    /// A whole request, of this many bytes with its length.
     Whole(usize),
     /// A part of one, or nothing.
     Part,
@@ -24,23 +25,24 @@ enum Next {
     Ends,
 }
 
-/// Finds the whole requests at the beginning of these bytes. Each is its length in four bytes, the lowest first, and as many bytes.
-pub fn find_requests(bytes: &[u8]) -> Requests
+/// Finds the whole requests at the beginning of these bytes. Each is its length in four bytes,
+/// little-endian, and that many bytes.
+pub fn find_requests(bytes: &[u8]) -> WholeRequests
     ensures { CutsAt bytes.now result.whole result.ends }
 {
     let mut whole = 0;
     'requests: loop {
         match next_request(&bytes[whole..]) {
             Next::Whole(count) => whole += count,
-            Next::Part => return Requests { whole, ends: false },
-            Next::Ends => return Requests { whole, ends: true },
+            Next::Part => return WholeRequests { whole, ends: false },
+            Next::Ends => return WholeRequests { whole, ends: true },
         }
     }
 }
 
-/// Finds what these bytes begin with.
+/// Finds the first request of these bytes.
 fn next_request(bytes: &[u8]) -> Next
-    ensures { IsNext result bytes.now }
+    ensures { IsNextRequest result bytes.now }
 {
     let Some((length, body)) = bytes.split_first_chunk::<4>() else {
         return Next::Part;

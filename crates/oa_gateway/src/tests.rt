@@ -1,8 +1,9 @@
 //! A made-up server and made-up clients, byte by byte.
-use crate::place::{ABSENT, ENDING, OVER, PRESENT, Place};
+use crate::place::{ABSENT, ENDING, NumberState, OVER, PRESENT};
 use crate::{
-    Conduct, Exclusion, GATEWAY, Heard, Moment, Patience, Queue, Requests, Taking, Turn, Verdict,
-    Waiting, Whose, find_requests, hear, heaviest, judge, must_give_way, put_now, restart,
+    BatchLimits, Conduct, Exclusion, GATEWAY, Heard, Moment, Patience, Queue, Taking, Verdict,
+    Waiting, WholeRequests, Whose, find_requests, hear, heaviest, judge, must_give_way, put_now,
+    restart,
 };
 
 /// A request of two bytes, one of one byte, and the first bytes of another.
@@ -12,7 +13,11 @@ const SENT: [u8; 14] = [2, 0, 0, 0, 7, 8, 1, 0, 0, 0, 9, 5, 0, 0];
 fn requests_are_found_byte_by_byte(rt: HostRuntime) {
     for (count, whole) in [(0, 0), (3, 0), (5, 0), (6, 6), (10, 6), (11, 11), (14, 11)] {
         let found = find_requests(&SENT[..count]);
-        assert_eq!(rt; found, Requests { whole, ends: false }, "{count} bytes");
+        assert_eq!(rt;
+            found,
+            WholeRequests { whole, ends: false },
+            "{count} bytes"
+        );
     }
 }
 
@@ -26,7 +31,7 @@ fn lengths_that_no_request_has(rt: HostRuntime) {
     ] {
         assert_eq!(rt;
             find_requests(&bytes),
-            Requests { whole, ends },
+            WholeRequests { whole, ends },
             "{bytes:?}"
         );
     }
@@ -49,8 +54,8 @@ enum Outcome {
     Hears(Heard),
 }
 
-/// Hears a frame that comes byte by byte.
-fn heard(places: &mut [Place], bytes: &[u8]) -> Heard {
+/// Hears a frame whose bytes come one at a time.
+fn heard(places: &mut [NumberState], bytes: &[u8]) -> Heard {
     for count in 0..bytes.len() {
         let found = hear(places, &bytes[..count]);
         if found != Heard::More {
@@ -60,7 +65,8 @@ fn heard(places: &mut [Place], bytes: &[u8]) -> Heard {
     hear(places, bytes)
 }
 
-fn come_of(places: &mut [Place; 1], act: Act) -> Outcome {
+/// Returns the result of a call for number 0.
+fn come_of(places: &mut [NumberState; 1], act: Act) -> Outcome {
     let mut out = [0u8; 32];
     match act {
         Act::Sends => Outcome::Puts(places[0].send(0, &[1, 0, 0, 0, 9], &mut out)),
@@ -71,10 +77,11 @@ fn come_of(places: &mut [Place; 1], act: Act) -> Outcome {
     }
 }
 
-/// Two clients have one number, one after the other. The server's replies to the first come when the second has asked.
+/// Two clients have one number, one after the other. The server's replies to the first come when
+/// the second has asked.
 #[test]
 fn a_number_is_used_again(rt: HostRuntime) {
-    let mut places = [Place {
+    let mut places = [NumberState {
         presence: ABSENT,
         owed: 0,
     }];
@@ -118,13 +125,13 @@ fn a_number_is_used_again(rt: HostRuntime) {
         (Act::Leaves, Outcome::Puts(Some(0)), ABSENT, 0),
     ] {
         assert_eq!(rt; come_of(&mut places, act), told, "{act:?}");
-        assert_eq!(rt; places[0], Place { presence, owed }, "{act:?}");
+        assert_eq!(rt; places[0], NumberState { presence, owed }, "{act:?}");
     }
 }
 
 #[test]
 fn what_goes_to_the_server(rt: HostRuntime) {
-    let mut place = Place {
+    let mut place = NumberState {
         presence: ABSENT,
         owed: 0,
     };
@@ -157,11 +164,11 @@ fn what_ends_a_batch(rt: HostRuntime) {
 #[test]
 fn another_server(rt: HostRuntime) {
     let mut places = [
-        Place {
+        NumberState {
             presence: ABSENT,
             owed: 3,
         },
-        Place {
+        NumberState {
             presence: PRESENT,
             owed: 0,
         },
@@ -170,11 +177,11 @@ fn another_server(rt: HostRuntime) {
     assert_eq!(rt;
         places,
         [
-            Place {
+            NumberState {
                 presence: ABSENT,
                 owed: 0
             },
-            Place {
+            NumberState {
                 presence: OVER,
                 owed: 0
             }
@@ -182,7 +189,7 @@ fn another_server(rt: HostRuntime) {
     );
 }
 
-/// The body of a request with this opcode, and with these flags if it is an INVOKE.
+/// Returns the body of a request with this opcode, and with these flags if it is an INVOKE.
 fn body_of(opcode: u8, flags: u8) -> [u8; 56] {
     let mut body = [0u8; 56];
     body[4] = opcode;
@@ -192,7 +199,7 @@ fn body_of(opcode: u8, flags: u8) -> [u8; 56] {
 
 #[test]
 fn a_turn_takes_what_it_may(rt: HostRuntime) {
-    let mut turn = Turn {
+    let mut turn = BatchLimits {
         requests: 7,
         asks: 3,
         bytes: 1_048_576,
@@ -288,7 +295,7 @@ fn the_first_reply_of_a_batch(rt: HostRuntime) {
             Taking::Taken,
         ),
     ] {
-        let mut turn = Turn {
+        let mut turn = BatchLimits {
             requests: 1,
             asks,
             bytes: 1,
@@ -312,7 +319,7 @@ fn a_batch_has_its_bytes(rt: HostRuntime) {
         ("it is longer", 59, 56, Taking::Taken, 0),
     ] {
         for opcode in [1, 11] {
-            let mut turn = Turn {
+            let mut turn = BatchLimits {
                 requests: 2,
                 asks: 1,
                 bytes,
@@ -340,7 +347,7 @@ fn clients_have_turns_in_a_batch(rt: HostRuntime) {
         ("and short ones", 0, 70, 33),
         ("then it is full", 0, 70, 0),
     ] {
-        let mut turn = Turn {
+        let mut turn = BatchLimits {
             requests: left.min(64),
             asks: 100,
             bytes: 1_048_576,
@@ -363,7 +370,8 @@ fn clients_have_turns_in_a_batch(rt: HostRuntime) {
     assert_eq!(rt; (left, expected), (0, 1_020_000));
 }
 
-/// A client with unread replies, which it has not read for so long, silent for so long, with an incomplete request for so long.
+/// Returns the conduct of a client with `unread` bytes of replies. The others are the milliseconds
+/// for which it has read none of them, has been silent, and has had an incomplete request.
 fn conduct(unread: usize, unread_for: u64, silent: u64, incomplete_for: u64) -> Conduct {
     Conduct {
         unread,

@@ -1,34 +1,37 @@
 //! Which requests of a client go into a batch.
 ghost use Rattle.std.specs.Prelude.{◌≡◌, ◌<◌, ◌+◌};
-ghost use Rattle.oa_gateway.specs.Turns.{asked, asks, behind_other, behind_taking, invoke_asks, opcode_of, taking};
+ghost use Rattle.oa_gateway.specs.Turns.{asked, asks, behind_other, behind_taking, body_opcode, invoke_asks, taking};
 ghost use Rattle.oa_gateway.specs.declared.turns.Taking.TheVariants.{Taken};
 
-/// The opcodes of requests that ask for something; INVOKE does if it is a method or a get.
+/// The opcode of INVOKE, which asks for something if it is a method or a get.
 const INVOKE: u16 = 4;
 
+/// The opcode of GETELEM, which asks for something.
 const GET_ELEMENT: u16 = 5;
 
+/// The opcode of TYPEINFO, which asks for something.
 const TYPE_INFO: u16 = 10;
 
+/// The opcode of LIST, which asks for something.
 const LIST: u16 = 11;
 
-/// The limits of what a client may still put into a batch, and of the replies to it.
+/// The limits of a client's further requests in a batch, and of the replies to the batch.
 #[repr(C)]
 #[derive(Clone, Copy, Debug, PartialEq, Eq)]
-pub struct Turn {
-    /// How many more requests it may put in.
+pub struct BatchLimits {
+    /// The number of further requests that it may put in.
     pub requests: u32,
-    /// How many more requests that ask for something, so that their replies may be long.
+    /// The number of further requests that ask for something, so that their replies may be long.
     pub asks: u32,
-    /// How many more bytes of requests the batch takes. One request may exceed them.
+    /// The number of further bytes of requests in the batch. One request may exceed them.
     pub bytes: usize,
-    /// How many bytes the reply to such a request has, about; 0 if they are not counted.
+    /// The number of bytes of the reply to such a request, about; 0 if they are not counted.
     pub weight: usize,
-    /// How many bytes of replies the batch has, about, to the requests that are in it.
+    /// The number of bytes of replies to the requests of the batch, about.
     pub expected: usize,
-    /// How many it may have.
+    /// The greatest number of such bytes.
     pub most: usize,
-    /// For how many there is memory.
+    /// The number of such bytes for which there is memory.
     pub room: usize,
     /// Whether there is memory for the first reply of a batch, however long it is.
     pub first: bool,
@@ -49,8 +52,9 @@ pub enum Taking {
     Lacks,
 }
 
-impl Turn {
-    /// Takes the next request of a client, by its body, into the batch, if it may be there.
+impl BatchLimits {
+    /// Takes the next request of a client, with this body, into the batch, if the limits allow it.
+    /// Returns the decision.
     pub fn take(&mut self, body: &[u8]) -> Taking
         ensures decides { result ≡ taking self.old body.now }
         ensures goes { self.new ≡ behind_taking result self.old body.now }
@@ -76,7 +80,7 @@ impl Turn {
         found
     }
 
-    /// A request with this body is in the batch. It has four bytes more, its length.
+    /// Counts a request with this body, which is in the batch. It has four bytes more, its length.
     fn count(&mut self, body: &[u8])
         requires { 0 < self.old.requests }
         ensures { self.new ≡ behind_other self.old body.now }
@@ -110,7 +114,7 @@ impl Turn {
     }
 }
 
-/// Whether a request asks for something, by its body.
+/// Returns whether the request with this body asks for something.
 fn asks_for_something(body: &[u8]) -> bool
     ensures { result ≡ asks body.now }
 {
@@ -123,9 +127,9 @@ fn asks_for_something(body: &[u8]) -> bool
     }
 }
 
-/// The opcode in a request's body, 0 if it has none.
+/// Returns the opcode in a request's body, 0 if it has none.
 fn opcode(body: &[u8]) -> u16
-    ensures { result ≡ opcode_of body.now }
+    ensures { result ≡ body_opcode body.now }
 {
     if body.len() < 8 {
         return 0;
@@ -134,7 +138,7 @@ fn opcode(body: &[u8]) -> u16
     u16::from_le_bytes([found[0], found[1]])
 }
 
-/// Whether an INVOKE is that of a method or a get.
+/// Returns whether an INVOKE is that of a method or a get.
 fn invoke_asks_for_something(body: &[u8]) -> bool
     ensures { result ≡ invoke_asks body.now }
 {

@@ -1,4 +1,4 @@
--- Whose requests are in a batch, as C sees it. (This project's choice.)
+-- Whose requests are in a batch, as a number for C. (This project's choice.)
 use Rattle.std.specs.Prelude.{ℕ}
 use Rattle.oa_gateway.specs.declared.exclusive.Whose.{Whose}
 use Rattle.oa_gateway.specs.declared.exclusive.Whose.TheVariants.{Nobody, Holder, NextHolder, Shared}

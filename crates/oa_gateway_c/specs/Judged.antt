@@ -1,4 +1,4 @@
--- What becomes of a client, as C sees it. (This project's choice.)
+-- The decision on a client, as a number for C. (This project's choice.)
 use Rattle.std.specs.Prelude.{ℕ}
 use Rattle.oa_gateway.specs.declared.disconnects.Verdict.{Verdict}
 use Rattle.oa_gateway.specs.declared.disconnects.Verdict.TheVariants.{Stays, Unread, Incomplete, Idle}

@@ -1,4 +1,4 @@
--- What becomes of a request, as C sees it. (This project's choice.)
+-- The decision on a request, as a number for C. (This project's choice.)
 use Rattle.std.specs.Prelude.{ℕ}
 use Rattle.oa_gateway.specs.declared.turns.Taking.{Taking}
 use Rattle.oa_gateway.specs.declared.turns.Taking.TheVariants.{Taken, Full, Often, Much, Lacks}

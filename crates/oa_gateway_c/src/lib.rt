@@ -1,43 +1,44 @@
 //! The decisions of oa_gateway as a static library for C: `clients/gateway` calls it.
 //!
-//! C lends bytes and places, and every call accepts whatever is in them. They are valid memory, as large as is said, and no two arguments share any. Nothing is
-//! allocated or kept between calls. `clients/gateway/gateway.h` declares these functions for C.
+//! C lends bytes and places, and every call accepts any contents of them. They must be valid memory
+//! of the given lengths, and no two arguments may share any. Nothing is allocated or kept between
+//! calls. `clients/gateway/gateway.h` declares these functions for C.
 #![tactic(auto)]
 
 ghost use Rattle.std.specs.Prelude.{◌≡◌, ◌<◌, ◌≤◌, ◌∷◌, ◌++◌, [], ℕ, List, Bool, true, false, length, take, slice_get, slice_index, Some, None};
-ghost use Rattle.oa_share.specs.Frames.{InHead, items_in};
-ghost use Rattle.oa_share.specs.Marks.{Last, Now, Of};
+ghost use Rattle.oa_mux.specs.promise.Frames.{InHead, pieces_in};
+ghost use Rattle.oa_mux.specs.promise.Marks.{Flush, Last, Of};
 ghost use Rattle.oa_gateway.specs.Beginnings.{begins};
 ghost use Rattle.oa_gateway.specs.Disconnects.{AllHaveRead, IsHeaviest, gives_way, judged};
 ghost use Rattle.oa_gateway.specs.Exclusive.{behind_batch, behind_holder, waiting_in, whose};
-ghost use Rattle.oa_gateway.specs.Frames.{Puts, gateway_number, room_for};
+ghost use Rattle.oa_gateway.specs.Frames.{PutsDeed, gateway_number, room_for};
 ghost use Rattle.oa_gateway.specs.Hearing.{Hearing};
-ghost use Rattle.oa_gateway.specs.Places.{AllRestarted, Closes, Leaves, MayDo, Sends, number_of};
-ghost use Rattle.oa_gateway.specs.Queues.{HasRoom, IsQueue, IsWithout, begun, joined, next_batch, next_turn, queue_of, turn_of};
-ghost use Rattle.oa_gateway.specs.Requests.{CutsAt};
+ghost use Rattle.oa_gateway.specs.Places.{AllRestarted, Closes, Leaves, MayDo, Sends, place_number};
+ghost use Rattle.oa_gateway.specs.Queues.{HasQueueRoom, IsQueue, IsWithout, begun_queue, enqueued, next_batch, next_turn, queue_of, turn_of};
+ghost use Rattle.oa_gateway.specs.WholeRequests.{CutsAt};
 ghost use Rattle.oa_gateway.specs.Turns.{behind_taking, taking};
 ghost use Rattle.oa_gateway.specs.declared.hearing.Heard.{Heard};
-ghost use Rattle.oa_gateway_c.specs.Heard.{frame_of};
+ghost use Rattle.oa_gateway_c.specs.Heard.{c_frame};
 ghost use Rattle.oa_gateway_c.specs.Taken.{taking_code};
 ghost use Rattle.oa_gateway_c.specs.Judged.{verdict_code};
 ghost use Rattle.oa_gateway_c.specs.Begun.{whose_code};
 
 use oa_gateway::{
-    Conduct, Exclusion, Heard, Moment, Patience, Place, Queue, Taking, Turn, Verdict, Whose,
-    waiting_in,
+    BatchLimits, Conduct, Exclusion, Heard, Moment, NumberState, Patience, Queue, Taking, Verdict,
+    Whose, waiting_in,
 };
 
 /// `Frame::what` of a frame that has not come whole.
 pub const PART: u32 = 0;
-/// Of the gateway's own end: all that was asked before is answered.
+/// `Frame::what` of the gateway's own end: all earlier requests are answered.
 pub const ALL_ANSWERED: u32 = 1;
-/// Of replies, which go to the client of `Frame::client`.
+/// `Frame::what` of replies, which go to the client of `Frame::client`.
 pub const GIVEN: u32 = 2;
-/// Of the end of that client.
+/// `Frame::what` of the end of that client.
 pub const ENDED: u32 = 3;
-/// Of one for a client that had this number before and has gone.
+/// `Frame::what` of a frame for a client that had this number before and has gone.
 pub const DROPPED: u32 = 4;
-/// Of one for no client that there is or was.
+/// `Frame::what` of a frame for no client that there is or was.
 pub const WRONG: u32 = 5;
 
 /// The decision on a frame of the server.
@@ -46,14 +47,15 @@ pub const WRONG: u32 = 5;
 pub struct Frame {
     /// `PART`, `ALL_ANSWERED`, `GIVEN`, `ENDED`, `DROPPED` or `WRONG`.
     pub what: u32,
-    /// The client's number if it is given, ended or dropped, else 0.
+    /// The client's number if the frame is given, ended or dropped, otherwise 0.
     pub client: u32,
-    /// How many bytes follow the frame's head if it is given or dropped, else 0.
+    /// The number of bytes after the frame's head if it is given or dropped, otherwise 0.
     pub count: usize,
 }
 
-/// Finds the whole requests at the beginning of a client's bytes. Returns how many bytes they are; `ends` is whether the four bytes after them are no length of
-/// a request, so that none follows.
+/// Finds the whole requests at the beginning of a client's bytes, and returns the number of their
+/// bytes. `ends` is whether the four bytes after them are no length of a request, so that none
+/// follows.
 #[unsafe(no_mangle)]
 pub extern "C" fn oa_find_requests(bytes: &[u8], ends: &mut bool) -> usize
     ensures { CutsAt bytes.now result ends.new }
@@ -63,19 +65,20 @@ pub extern "C" fn oa_find_requests(bytes: &[u8], ends: &mut bool) -> usize
     found.whole
 }
 
-/// Sends bytes of the client of a number: their frames are the first `count` bytes of `out`. Returns `false`, and nothing is done, if the client has had its
-/// end, if the number is none of a client, or if `out` may have too little room.
+/// Sends bytes of the client with this number: their frames are the first `count` bytes of `out`.
+/// Returns `false`, and nothing is done, in three cases: the client has had its end, the number is
+/// not one of a client, or `out` may be too short.
 #[unsafe(no_mangle)]
 pub extern "C" fn oa_send(
-    place: &mut Place,
+    place: &mut NumberState,
     number: u32,
     bytes: &[u8],
     out: &mut [u8],
     count: &mut usize,
 ) -> bool
-    ensures done { result ≡ true → Puts (Sends bytes.now) number count.new out.new (number_of place.old) (number_of place.new) }
+    ensures done { result ≡ true → PutsDeed (Sends bytes.now) number count.new out.new (place_number place.old) (place_number place.new) }
     ensures not { result ≡ false → place.new ≡ place.old }
-    ensures succeeds { MayDo (number_of place.old) (Sends bytes.now) → number < gateway_number → room_for (length bytes.now) ≤ length out.old
+    ensures succeeds { MayDo (place_number place.old) (Sends bytes.now) → number < gateway_number → room_for (length bytes.now) ≤ length out.old
         → result ≡ true }
 {
     let Some(sent) = place.send(number, bytes, out) else {
@@ -85,16 +88,17 @@ pub extern "C" fn oa_send(
     true
 }
 
-/// Nothing more comes of the client of a number. Its end, if the server has to have one, is the first `count` bytes of `out`, 8 or 0. Returns `false`, and
-/// nothing is done, if the number is none of a client, or if `out` has too little room.
+/// Ends the stream of the client with this number. Its end, if the server has to have one, is the
+/// first `count` bytes of `out`, 8 or 0. Returns `false`, and nothing is done, if the number is not
+/// one of a client, or if `out` is too short.
 #[unsafe(no_mangle)]
 pub extern "C" fn oa_close(
-    place: &mut Place,
+    place: &mut NumberState,
     number: u32,
     out: &mut [u8],
     count: &mut usize,
 ) -> bool
-    ensures done { result ≡ true → Puts Closes number count.new out.new (number_of place.old) (number_of place.new) }
+    ensures done { result ≡ true → PutsDeed Closes number count.new out.new (place_number place.old) (place_number place.new) }
     ensures not { result ≡ false → place.new ≡ place.old }
     ensures succeeds { number < gateway_number → 8 ≤ length out.old → result ≡ true }
 {
@@ -105,16 +109,18 @@ pub extern "C" fn oa_close(
     true
 }
 
-/// The client of a number has gone, and the number is the next one's. Its end, if the server has to have one, is the first `count` bytes of `out`, 8 or 0.
-/// Returns `false`, and nothing is done, if the number is none of a client, if `out` has too little room, or if the server owes 2^32 - 1 ends.
+/// Notes that the client with this number has gone: the number is the next client's. Its end, if
+/// the server has to have one, is the first `count` bytes of `out`, 8 or 0. Returns `false`, and
+/// nothing is done, in three cases: the number is not one of a client, `out` is too short, or the
+/// server owes 2^32 - 1 ends.
 #[unsafe(no_mangle)]
 pub extern "C" fn oa_leave(
-    place: &mut Place,
+    place: &mut NumberState,
     number: u32,
     out: &mut [u8],
     count: &mut usize,
 ) -> bool
-    ensures done { result ≡ true → Puts Leaves number count.new out.new (number_of place.old) (number_of place.new) }
+    ensures done { result ≡ true → PutsDeed Leaves number count.new out.new (place_number place.old) (place_number place.new) }
     ensures not { result ≡ false → place.new ≡ place.old }
     ensures succeeds { number < gateway_number → 8 ≤ length out.old → place.old.owed < 4294967295 → result ≡ true }
 {
@@ -125,12 +131,13 @@ pub extern "C" fn oa_leave(
     true
 }
 
-/// Ends a batch: the gateway's own end and a *now* are the first `count` bytes of `out`. Returns `false` if they have no room.
+/// Ends a batch: the gateway's own end and a *now* are the first `count` bytes of `out`, 16 of
+/// them. Returns `false` if `out` is shorter.
 #[unsafe(no_mangle)]
 pub extern "C" fn oa_put_now(out: &mut [u8], count: &mut usize) -> bool
     ensures within { result ≡ true → count.new ≤ length out.new }
     ensures done { result ≡ true → (rest : List ℕ)
-        → items_in (InHead []) (take count.new out.new ++ rest) ≡ Of gateway_number Last ∷ Now ∷ items_in (InHead []) rest }
+        → pieces_in (InHead []) (take count.new out.new ++ rest) ≡ Of gateway_number Last ∷ Flush ∷ pieces_in (InHead []) rest }
     ensures not { result ≡ false → length out.old < 16 }
 {
     let Some(put) = oa_gateway::put_now(out) else {
@@ -140,18 +147,19 @@ pub extern "C" fn oa_put_now(out: &mut [u8], count: &mut usize) -> bool
     true
 }
 
-/// Hears the first frame of the server's bytes, for the client to whose number it is.
+/// Decides on the first frame of the server's bytes, and updates the state of its number.
+/// `places[n]` is the state of number n. The decision is `frame`.
 #[unsafe(no_mangle)]
-pub extern "C" fn oa_hear(places: &mut [Place], bytes: &[u8], frame: &mut Frame)
-    ensures { (heard : Heard) × (frame.new ≡ frame_of heard) × Hearing heard bytes.now places.old places.new }
+pub extern "C" fn oa_hear(places: &mut [NumberState], bytes: &[u8], frame: &mut Frame)
+    ensures { (heard : Heard) × (frame.new ≡ c_frame heard) × Hearing heard bytes.now places.old places.new }
 {
     let heard = oa_gateway::hear(places, bytes);
     *frame = told(heard);
 }
 
-/// A frame as C sees what becomes of it.
+/// Returns the decision on a frame as C gets it.
 fn told(heard: Heard) -> Frame
-    ensures { result ≡ frame_of heard }
+    ensures { result ≡ c_frame heard }
 {
     match heard {
         Heard::More => Frame {
@@ -187,35 +195,37 @@ fn told(heard: Heard) -> Frame
     }
 }
 
-/// The server has ended, and another one was started or will be: it owes nothing, and of the clients that were there nothing is sent to it.
+/// Notes that the server has ended, and that another one was started or will be. The new server
+/// owes nothing. It receives nothing of the clients that were there.
 #[unsafe(no_mangle)]
-pub extern "C" fn oa_restart(places: &mut [Place])
+pub extern "C" fn oa_restart(places: &mut [NumberState])
     ensures { AllRestarted places.old places.new }
 {
     oa_gateway::restart(places);
 }
 
-/// `oa_take` of a request that is in the batch.
+/// Result of `oa_take`: the request is in the batch.
 pub const TAKEN: u32 = 0;
-/// Of one for which the turn has no more room.
+/// Result of `oa_take`: the turn has all its requests, or the batch all its bytes.
 pub const FULL: u32 = 1;
-/// Of one that asks for something, if the turn has all its requests that do.
+/// Result of `oa_take`: the request asks for something, and the turn has all its requests that do.
 pub const OFTEN: u32 = 2;
-/// Of one whose reply would be too much for the batch.
+/// Result of `oa_take`: the reply would be too much for the batch.
 pub const MUCH: u32 = 3;
-/// Of one for whose reply there is no memory.
+/// Result of `oa_take`: there is no memory for the reply.
 pub const LACKS: u32 = 4;
 
-/// Takes the next request of a client, by its body, into the batch, if it may be there. Returns what becomes of it.
+/// Takes the next request of a client, with this body, into the batch, if the limits allow it.
+/// Returns the decision: `TAKEN`, `FULL`, `OFTEN`, `MUCH` or `LACKS`.
 #[unsafe(no_mangle)]
-pub extern "C" fn oa_take(turn: &mut Turn, body: &[u8]) -> u32
+pub extern "C" fn oa_take(turn: &mut BatchLimits, body: &[u8]) -> u32
     ensures decides { result ≡ taking_code (taking turn.old body.now) }
     ensures goes { turn.new ≡ behind_taking (taking turn.old body.now) turn.old body.now }
 {
     number_of_taking(turn.take(body))
 }
 
-/// The number by which C knows it.
+/// Returns the number of a decision for C.
 fn number_of_taking(taking: Taking) -> u32
     ensures { result ≡ taking_code taking }
 {
@@ -228,18 +238,20 @@ fn number_of_taking(taking: Taking) -> u32
     }
 }
 
-/// A client waits for its turn, after all others. Returns `false`, and nothing is done, if the array has no place for it, or if the queue is none in this array.
+/// Adds a client with this number, which waits for its turn after all others. Returns `false`, and
+/// nothing is done, if the array has no place for it, or if this is no queue in the array.
 #[unsafe(no_mangle)]
 pub extern "C" fn oa_join(queue: &mut Queue, places: &mut [u32], client: u32) -> bool
-    ensures done { result ≡ true → queue_of queue.new places.new ≡ joined client (queue_of queue.old places.old) }
+    ensures done { result ≡ true → queue_of queue.new places.new ≡ enqueued client (queue_of queue.old places.old) }
     ensures not { result ≡ false → (queue.new ≡ queue.old) × (places.new ≡ places.old) }
-    ensures succeeds { HasRoom queue.old (length places.old) → result ≡ true }
+    ensures succeeds { HasQueueRoom queue.old (length places.old) → result ≡ true }
     ensures sound { result ≡ true → IsQueue queue.new (length places.new) }
 {
     queue.join(places, client)
 }
 
-/// The client that has the next turn of this batch. Returns `false` if nobody waits for one.
+/// Sets `client` to the number of the client that has the next turn of this batch. Returns `false`
+/// if nobody waits for one.
 #[unsafe(no_mangle)]
 pub extern "C" fn oa_first(queue: &Queue, places: &[u32], client: &mut u32) -> bool
     ensures some { result ≡ true → slice_get (queue_of queue.now places.now).waiting 0 ≡ Some client.new }
@@ -252,8 +264,9 @@ pub extern "C" fn oa_first(queue: &Queue, places: &[u32], client: &mut u32) -> b
     true
 }
 
-/// The first client has had its turn: `waits` is whether it has more requests, and `took` whether the batch took some of them. Returns `false`, and nothing is
-/// done, if the queue is none in this array.
+/// Notes that the first client has had its turn. `waits` is whether it has more requests, and
+/// `took` whether the batch took some of them. Returns `false`, and nothing is done, if this is no
+/// queue in the array.
 #[unsafe(no_mangle)]
 pub extern "C" fn oa_had_turn(
     queue: &mut Queue,
@@ -269,10 +282,11 @@ pub extern "C" fn oa_had_turn(
     queue.had_turn(places, waits, took)
 }
 
-/// The batch is made: all clients wait for turns in the next one. Returns `false`, and nothing is done, if the queue is none in this array.
+/// Ends a batch: all clients wait for turns in the next one. Returns `false`, and nothing is done,
+/// if this is no queue in the array.
 #[unsafe(no_mangle)]
 pub extern "C" fn oa_renew(queue: &mut Queue, places: &mut [u32]) -> bool
-    ensures done { result ≡ true → queue_of queue.new places.new ≡ begun (next_batch (queue_of queue.old places.old)) }
+    ensures done { result ≡ true → queue_of queue.new places.new ≡ begun_queue (next_batch (queue_of queue.old places.old)) }
     ensures not { result ≡ false → (queue.new ≡ queue.old) × (places.new ≡ places.old) }
     ensures succeeds { IsQueue queue.old (length places.old) → result ≡ true }
     ensures sound { result ≡ true → IsQueue queue.new (length places.new) }
@@ -280,7 +294,8 @@ pub extern "C" fn oa_renew(queue: &mut Queue, places: &mut [u32]) -> bool
     queue.renew(places)
 }
 
-/// A client has gone, and waits no more. Returns `false`, and nothing is done, if it waits for no turn in this batch, or if the queue is none in this array.
+/// Removes the client with this number, which has gone. Returns `false`, and nothing is done, if it
+/// waits for no turn in this batch, or if this is no queue in the array.
 #[unsafe(no_mangle)]
 pub extern "C" fn oa_remove(queue: &mut Queue, places: &mut [u32], client: u32) -> bool
     ensures done { result ≡ true → IsWithout client (queue_of queue.old places.old) (queue_of queue.new places.new) }
@@ -292,16 +307,19 @@ pub extern "C" fn oa_remove(queue: &mut Queue, places: &mut [u32], client: u32) 
     queue.remove(places, client)
 }
 
-/// `oa_begin` of a batch without requests.
+/// Result of `oa_begin`: the batch has no requests.
 pub const NOBODYS: u32 = 0;
-/// Of one of the exclusive client that has the server to itself.
+/// Result of `oa_begin`: the batch is that of the exclusive client that has the server to itself.
 pub const HOLDERS: u32 = 1;
-/// Of one of the first exclusive client that waits, which has the server to itself from now on.
+/// Result of `oa_begin`: the batch is that of the first exclusive client that waits, which has the
+/// server to itself from now on.
 pub const NEXT_HOLDERS: u32 = 2;
-/// Of one of shared clients.
+/// Result of `oa_begin`: the batch is that of shared clients.
 pub const SHARED_ONES: u32 = 3;
 
-/// Begins a batch. Returns whose requests are in it: `own` is the queue of the exclusive client that has the server to itself, and `exclusive` that of the others.
+/// Begins a batch, and returns whose requests are in it: `NOBODYS`, `HOLDERS`, `NEXT_HOLDERS` or
+/// `SHARED_ONES`. The queue `own` is that of the exclusive client that has the server to itself.
+/// `exclusive` is that of the other exclusive clients, and `shared` that of shared ones.
 #[unsafe(no_mangle)]
 pub extern "C" fn oa_begin(
     exclusion: &mut Exclusion,
@@ -320,7 +338,7 @@ pub extern "C" fn oa_begin(
     }
 }
 
-/// The exclusive client that had the server to itself has gone.
+/// Notes that the exclusive client that had the server to itself has gone.
 #[unsafe(no_mangle)]
 pub extern "C" fn oa_let_go(exclusion: &mut Exclusion)
     ensures { exclusion.new ≡ behind_holder exclusion.old }
@@ -328,7 +346,8 @@ pub extern "C" fn oa_let_go(exclusion: &mut Exclusion)
     exclusion.let_go();
 }
 
-/// Whether a batch begins if nothing else happens before, and `after` how many nanoseconds. The queues are those of `oa_begin`.
+/// Returns whether a batch begins if nothing else happens before. If so, it begins `after` this
+/// many nanoseconds. The queues are those of `oa_begin`.
 #[unsafe(no_mangle)]
 pub extern "C" fn oa_begins(
     moment: &Moment,
@@ -349,16 +368,17 @@ pub extern "C" fn oa_begins(
     true
 }
 
-/// `oa_judge` of a client that stays connected.
+/// Result of `oa_judge`: the client stays connected.
 pub const STAYS: u32 = 0;
-/// Of one that does not read its replies.
+/// Result of `oa_judge`: the client does not read its replies.
 pub const UNREAD: u32 = 1;
-/// Of one that does not complete its request.
+/// Result of `oa_judge`: the client does not complete its request.
 pub const INCOMPLETE: u32 = 2;
-/// Of one that sends no request.
+/// Result of `oa_judge`: the client sends no request.
 pub const IDLE: u32 = 3;
 
-/// Returns whether a client that behaves so stays connected, and if not, why.
+/// Returns whether a client that behaves so stays connected, and if not, why: `STAYS`, `UNREAD`,
+/// `INCOMPLETE` or `IDLE`.
 #[unsafe(no_mangle)]
 pub extern "C" fn oa_judge(conduct: &Conduct, patience: &Patience) -> u32
     ensures { result ≡ verdict_code (judged conduct.now patience.now) }
@@ -371,8 +391,9 @@ pub extern "C" fn oa_judge(conduct: &Conduct, patience: &Patience) -> u32
     }
 }
 
-/// Whether a client is disconnected since replies need its memory: `lacks` is whether a request waits for such memory, and `used` is how many bytes of
-/// `memory` replies have.
+/// Returns whether a client is disconnected because replies need its memory. `lacks` is whether a
+/// request waits for such memory. Replies have `used` bytes of the `memory` bytes that they may
+/// have.
 #[unsafe(no_mangle)]
 pub extern "C" fn oa_gives_way(conduct: &Conduct, used: usize, memory: usize, lacks: bool) -> bool
     ensures { result ≡ gives_way conduct.now used memory lacks }
@@ -380,7 +401,8 @@ pub extern "C" fn oa_gives_way(conduct: &Conduct, used: usize, memory: usize, la
     oa_gateway::must_give_way(conduct, used, memory, lacks)
 }
 
-/// The client with the most bytes of unread replies, by its number; that of no client, so many as there are, if all have read theirs.
+/// Returns the number of the client with the most unread replies. `unread[n]` is the number of
+/// bytes that client n has not read. If all have read theirs, it returns the number of clients.
 #[unsafe(no_mangle)]
 pub extern "C" fn oa_heaviest(unread: &[usize]) -> usize
     ensures some { result < length unread.now → IsHeaviest unread.now result }

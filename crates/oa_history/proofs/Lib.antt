@@ -1,7 +1,7 @@
 pub mod Addressed
 pub mod Calls
 pub mod Crashed
-pub mod Cutting
+pub mod ChunkedSource
 pub mod Few
 pub mod ForMany
 pub mod Found

@@ -1,22 +1,26 @@
 -- The canonical text of a library stands for that library.
-use Rattle.std.proofs.Common.{◌≡◌, Bool, true, false, cond, ◌||◌, if◌then◌else◌, List, [], ◌∷◌, ◌++◌, map, find, ℕ, Option, None, Some, is_some, refl, sym, ◌∙◌, ap, subst}
+use Rattle.std.proofs.Common.{◌≡◌, Bool, true, false, cond, ◌||◌, if◌then◌else◌, List, [], ◌∷◌, ◌++◌, map, find, ℕ, Option, None, Some, is_some, refl, sym}
+use Rattle.std.proofs.Common.{◌∙◌, ap, subst}
 use Rattle.std.specs.List.{list_any}
 use Rattle.std.specs.Option.{option_and_then, option_or}
-use Rattle.oa_canonical.specs.Canonical.{canonical}
-use Rattle.oa_checks.specs.Breaches.{array_breach, array_in, bad_default_in, default_breach, disagrees, entry_breach, first_breach, first_broken, form_breach, guid_breach, id_breach, in_interface}
-use Rattle.oa_checks.specs.Breaches.{inner_breach, interface_breach, item_breach, length_breach, name_breach, repeated_name, shares_id, text_breach, unknown_name}
-use Rattle.oa_checks.specs.DeclarationValues.{DeclarationValue}
-use Rattle.oa_checks.specs.IsLibrary.{IsLibrary}
-use Rattle.oa_checks.specs.Libraries.{as_interface, interface_named, item_name, mark_first, marked, marked_entries, marked_item, same, same_name}
-use Rattle.oa_checks.specs.Repeats.{first_after, first_answer, first_repeat}
-use Rattle.oa_idl.specs.IsTree.{IsTree}
-use Rattle.oa_idl.specs.Trees.{TreeValue}
+use Rattle.oa_printer.specs.promise.Canonical.{canonical}
+use Rattle.oa_sema.specs.promise.Breaches.{array_breach, bad_default_in, default_breach, disagrees, entry_breach}
+use Rattle.oa_sema.specs.promise.Breaches.{first_array_parameter, first_breach, first_broken, form_breach, guid_breach}
+use Rattle.oa_sema.specs.promise.Breaches.{id_breach, in_interface, inner_breach, interface_breach, item_breach}
+use Rattle.oa_sema.specs.promise.Breaches.{length_breach, name_breach, repeated_name, shares_id, text_breach}
+use Rattle.oa_sema.specs.promise.Breaches.{unknown_name}
+use Rattle.oa_sema.specs.promise.DeclarationValues.{DeclarationValue}
+use Rattle.oa_sema.specs.promise.IsLibrary.{IsLibrary}
+use Rattle.oa_sema.specs.promise.Libraries.{as_interface, interface_named, item_name, mark_first, marked}
+use Rattle.oa_sema.specs.promise.Libraries.{marked_entries, marked_item, same, same_name, item_guid}
+use Rattle.oa_sema.specs.promise.Repeats.{first_after, first_answer, first_repeat}
+use Rattle.oa_idl.specs.promise.IsTree.{IsTree}
+use Rattle.oa_idl.specs.promise.Trees.{TreeValue}
 use Rattle.oa_idl.specs.declared.items.Item.{Item}
 use Rattle.oa_idl.specs.declared.items.Item.TheVariants.{Interface, Coclass}
 use Rattle.oa_idl.specs.declared.parts.Entry.{Entry}
 use Rattle.oa_typelib.proofs.Finds.{guid_kept, kept}
-use Rattle.oa_checks.specs.Libraries.{item_guid}
-use Rattle.oa_typelib.specs.Checked.{IsChecked}
+use Rattle.oa_typelib.specs.promise.Checked.{IsChecked}
 use Rattle.oa_history.proofs.Reading.{library_marked, marked_again}
 
 -- ---- what the marks keep of an item
@@ -60,9 +64,12 @@ push_kept (y ∷ before) x = ap (λ (l : List Item). marked_item y ∷ l) (push_
 
 item_kept : (before : List Item) (x : Item) → item_breach (map marked_item before) (marked_item x) ≡ item_breach before x
 item_kept before x =
-    ap (λ (n : List ℕ). if list_any (λ (other : Item). same_name n (item_name other)) (map marked_item before) then Some n else inner_breach (marked_item x)) (name_is x)
-    ∙ ap (λ (b : Bool). if b then Some (item_name x) else inner_breach (marked_item x)) (any_kept (λ (other : Item). same_name (item_name x) (item_name other)) (λ y. ap (same_name (item_name x)) (name_is y)) before)
-    ∙ ap (λ (o : Option (List ℕ)). if list_any (λ (other : Item). same_name (item_name x) (item_name other)) before then Some (item_name x) else o) (inner_kept x)
+    ap (λ (n : List ℕ). if list_any (λ (other : Item). same_name n (item_name other)) (map marked_item before) then Some n else inner_breach (marked_item x))
+    (name_is x)
+    ∙ ap (λ (b : Bool). if b then Some (item_name x) else inner_breach (marked_item x))
+    (any_kept (λ (other : Item). same_name (item_name x) (item_name other)) (λ y. ap (same_name (item_name x)) (name_is y)) before)
+    ∙ ap (λ (o : Option (List ℕ)). if list_any (λ (other : Item). same_name (item_name x) (item_name other)) before then Some (item_name x) else o)
+    (inner_kept x)
 
 after_kept : (before items : List Item) → first_after item_breach (map marked_item before) (map marked_item items) ≡ first_after item_breach before items
 unfolding first_after
@@ -72,36 +79,46 @@ after_kept before (x ∷ xs) =
     ∙ ap (λ (l : List Item). option_or (item_breach before x) (first_after item_breach l (map marked_item xs))) (sym (push_kept before x))
     ∙ ap (λ (o : Option (List ℕ)). option_or (item_breach before x) o) (after_kept (before ++ x ∷ []) xs)
 
-answers_kept : (one two : Item → Option (List ℕ)) → ((x : Item) → one (marked_item x) ≡ two x) → (items : List Item) → first_answer one (map marked_item items) ≡ first_answer two items
+answers_kept : (one two : Item → Option (List ℕ)) → ((x : Item) → one (marked_item x) ≡ two x) → (items : List Item)
+    → first_answer one (map marked_item items) ≡ first_answer two items
 unfolding first_answer
 answers_kept one two is [] = refl
-answers_kept one two is (x ∷ xs) = ap (λ (o : Option (List ℕ)). option_or o (first_answer one (map marked_item xs))) (is x) ∙ ap (λ (o : Option (List ℕ)). option_or (two x) o) (answers_kept one two is xs)
+answers_kept one two is (x ∷ xs) = ap (λ (o : Option (List ℕ)). option_or o (first_answer one (map marked_item xs))) (is x)
+    ∙ ap (λ (o : Option (List ℕ)). option_or (two x) o) (answers_kept one two is xs)
 
 same_answers : (one two : Entry → Option (List ℕ)) → ((e : Entry) → one e ≡ two e) → (es : List Entry) → first_answer one es ≡ first_answer two es
 unfolding first_answer
 same_answers one two is [] = refl
-same_answers one two is (e ∷ es) = ap (λ (o : Option (List ℕ)). option_or o (first_answer one es)) (is e) ∙ ap (λ (o : Option (List ℕ)). option_or (two e) o) (same_answers one two is es)
+same_answers one two is (e ∷ es) = ap (λ (o : Option (List ℕ)). option_or o (first_answer one es)) (is e) ∙ ap (λ (o : Option (List ℕ)). option_or (two e) o)
+    (same_answers one two is es)
 
 -- ---- which interface has a name, and which entry names none
 
 named_kept : (name : List ℕ) (items : List Item) → interface_named (map marked_item items) name ≡ interface_named items name
 named_kept name [] = refl
-named_kept name (x ∷ xs) = ap (λ (b : Bool). option_and_then as_interface (cond b (Some (marked_item x)) (find (λ i. same_name name (item_name i)) (map marked_item xs)))) (ap (same_name name) (name_is x)) ∙ by (named_kept name xs) (same_name name (item_name x))
+named_kept name (x ∷ xs) =
+    ap (λ (b : Bool). option_and_then as_interface (cond b (Some (marked_item x)) (find (λ i. same_name name (item_name i)) (map marked_item xs))))
+    (ap (same_name name) (name_is x)) ∙ by (named_kept name xs) (same_name name (item_name x))
   where
-    by : interface_named (map marked_item xs) name ≡ interface_named xs name → (b : Bool) → option_and_then as_interface (cond b (Some (marked_item x)) (find (λ i. same_name name (item_name i)) (map marked_item xs))) ≡ option_and_then as_interface (cond b (Some x) (find (λ i. same_name name (item_name i)) xs))
+    by : interface_named (map marked_item xs) name ≡ interface_named xs name → (b : Bool)
+        → option_and_then as_interface (cond b (Some (marked_item x)) (find (λ i. same_name name (item_name i)) (map marked_item xs)))
+        ≡ option_and_then as_interface (cond b (Some x) (find (λ i. same_name name (item_name i)) xs))
     by rest true = interface_is x
     by rest false = rest
 
 unknown_kept : (items : List Item) (e : Entry) → unknown_name (map marked_item items) e ≡ unknown_name items e
 unknown_kept items e = ap (λ o. if is_some o then None else Some e.interface) (named_kept e.interface items)
 
-first_unknown : (items : List Item) (es : List Entry) → first_answer (unknown_name (map marked_item items)) (mark_first es) ≡ first_answer (unknown_name items) es
+first_unknown : (items : List Item) (es : List Entry) → first_answer (unknown_name (map marked_item items)) (mark_first es) ≡ first_answer
+    (unknown_name items) es
 unfolding first_answer
 first_unknown items [] = refl
 first_unknown items (e ∷ es) = ap (λ (o : Option (List ℕ)). option_or o (first_answer (unknown_name (map marked_item items)) es)) (unknown_kept items e)
-    ∙ ap (λ (o : Option (List ℕ)). option_or (unknown_name items e) o) (same_answers (unknown_name (map marked_item items)) (unknown_name items) (unknown_kept items) es)
+    ∙ ap (λ (o : Option (List ℕ)). option_or (unknown_name items e) o)
+    (same_answers (unknown_name (map marked_item items)) (unknown_name items) (unknown_kept items) es)
 
-entries_kept : (items : List Item) (es : List Entry) → first_answer (unknown_name (map marked_item items)) (marked_entries es) ≡ first_answer (unknown_name items) es
+entries_kept : (items : List Item) (es : List Entry) → first_answer (unknown_name (map marked_item items)) (marked_entries es) ≡ first_answer
+    (unknown_name items) es
 entries_kept items es = by (list_any (λ (e : Entry). e.is_default) es)
   where
     by : (b : Bool) → first_answer (unknown_name (map marked_item items)) (if b then es else mark_first es) ≡ first_answer (unknown_name items) es
@@ -114,7 +131,8 @@ entry_kept items (Coclass c) = entries_kept items c.entries
 
 -- ---- no breach comes of the marks
 
-within_kept : (breach : List DeclarationValue → Option (List ℕ)) (items : List Item) → first_answer (in_interface breach) (map marked_item items) ≡ first_answer (in_interface breach) items
+within_kept : (breach : List DeclarationValue → Option (List ℕ)) (items : List Item) → first_answer (in_interface breach) (map marked_item items) ≡ first_answer
+    (in_interface breach) items
 within_kept breach items = answers_kept (in_interface breach) (in_interface breach) (in_kept breach) items
 
 names_kept : (items : List Item) → name_breach (map marked_item items) ≡ name_breach items
@@ -133,7 +151,7 @@ forms_kept : (items : List Item) → form_breach (map marked_item items) ≡ for
 forms_kept items = within_kept (first_broken disagrees) items
 
 arrays_kept : (items : List Item) → array_breach (map marked_item items) ≡ array_breach items
-arrays_kept items = within_kept (first_answer array_in) items
+arrays_kept items = within_kept (first_answer first_array_parameter) items
 
 defaults_kept : (items : List Item) → default_breach (map marked_item items) ≡ default_breach items
 defaults_kept items = within_kept (first_answer bad_default_in) items
@@ -143,7 +161,17 @@ unfolding text_breach
 text_kept t = ap length_breach (marked_again t)
 
 breach_kept : (t : TreeValue) → first_breach (marked t) ≡ first_breach t
-breach_kept t = rw (names_kept t.items, ids_kept t.items, guids_kept t.guid t.items, unknowns_kept t.items, forms_kept t.items, arrays_kept t.items, defaults_kept t.items, text_kept t) refl
+breach_kept t =
+    rw (
+      names_kept t.items,
+      ids_kept t.items,
+      guids_kept t.guid t.items,
+      unknowns_kept t.items,
+      forms_kept t.items,
+      arrays_kept t.items,
+      defaults_kept t.items,
+      text_kept t,
+    ) refl
 
 module _ (read : (t : TreeValue) → IsChecked t → IsTree (canonical t) t) where
   pub its_library : (t : TreeValue) → IsChecked t → IsLibrary (canonical t) t

@@ -2,8 +2,8 @@
 use Rattle.std.proofs.Common.{◌≡◌, ◌<◌, ℕ, List, Bool, false, true, true≢false, Err, IsErrOf, Result, refl, sym, ◌∙◌, ap}
 use Rattle.oa_disk.specs.declared.disk.DeviceFault.{DeviceFault}
 use Rattle.oa_disk.specs.declared.disk.DeviceFault.TheVariants.{Write}
-use Rattle.oa_journal.specs.Shapes.{disk_bytes}
-use Rattle.oa_journal.specs.declared.shape.Shape.TheVariants.{Two}
+use Rattle.oa_journal.specs.promise.Bank.{disk_bytes}
+use Rattle.oa_journal.specs.declared.shape.BankFormat.TheVariants.{Two}
 use Rattle.oa_store.specs.Faults.{UpgradeSays}
 use Rattle.oa_store.specs.declared.fault.UpgradeFault.{UpgradeFault}
 use Rattle.oa_store.specs.declared.fault.UpgradeFault.TheVariants as upgrades
@@ -35,7 +35,8 @@ unbrought bank size contents (upgrades.Device fault) small none new damaged says
 unbrought bank size contents upgrades.Memory small none new damaged says = tt
 
 -- a checkpoint of a store that goes on fails by a write
-pub write_failed : (was : Bool) (result : Result (Unit {0}) WriteFault) (fault : WriteFault) → result ≡ Err fault → was ≡ false → (IsErrOf result writes.Stopped → was ≡ true) → ((device : DeviceFault) → IsErrOf result (writes.Device device) → device ≡ Write)
+pub write_failed : (was : Bool) (result : Result (Unit {0}) WriteFault) (fault : WriteFault) → result ≡ Err fault → was ≡ false
+    → (IsErrOf result writes.Stopped → was ≡ true) → ((device : DeviceFault) → IsErrOf result (writes.Device device) → device ≡ Write)
     → fault ≡ writes.Device Write
 write_failed was result writes.Stopped is going late fails = absurd (true≢false (sym (late is) ∙ going))
 write_failed was result (writes.Device device) is going late fails = ap writes.Device (fails device is)

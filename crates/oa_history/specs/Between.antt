@@ -1,26 +1,22 @@
--- Steps other than sessions: formatting a store, upgrading it to format 2, and a checkpoint.
-use Rattle.std.specs.Prelude.{◌≡◌, ◌⊎◌, ℕ, ◌+◌, ◌*◌, ◌-◌, ◌≤◌, IsTrue, true, min, List, length}
-use Rattle.oa_disk.specs.Disk.{Torn}
-use Rattle.oa_disk.specs.Memory.{IsTornAt, image_of, moments_of}
+-- Definitions for contracts and proofs, beside promise/CrashHistories.
+use Rattle.std.specs.Prelude.{◌≡◌, ◌⊎◌, ℕ, ◌+◌, ◌*◌, ◌≤◌, IsTrue, true, min, List, length}
+use Rattle.oa_disk.specs.promise.Disk.{Torn}
+use Rattle.oa_disk.specs.promise.Memory.{IsTornAt, memory_image, moments_of}
 use Rattle.oa_disk.specs.declared.crash.Tear.{Tear}
 use Rattle.oa_disk.specs.declared.disk.Disk.{Ghosts}
 use Rattle.oa_disk.specs.declared.memory.MemoryDisk.{MemoryDisk}
-use Rattle.oa_canonical.specs.Canonical.{canonical}
-use Rattle.oa_groups.specs.Runs.{HoldsState}
-use Rattle.oa_idl.specs.Trees.{TreeValue}
-use Rattle.oa_image.specs.Tables.{is_numbered}
-use Rattle.oa_journal.specs.Banks.{first_gate}
-use Rattle.oa_journal.specs.Reads.{WritesNothing}
-use Rattle.oa_journal.specs.declared.shape.Shape.TheVariants.{One, Two}
-use Rattle.oa_turn.specs.Events.{held_of}
-use Rattle.oa_decision.specs.States.{State}
-use Rattle.oa_server.specs.Requests.{requests}
-use Rattle.oa_store.specs.Calls.{checkpoint_calls, format_calls}
-use Rattle.oa_store.specs.Changes.{IsNoneOrFirst, IsUpgrade}
-use Rattle.oa_store.specs.Faults.{IsBrought}
-use Rattle.oa_store.specs.Stores.{IsStoreAt}
+use Rattle.oa_printer.specs.promise.Canonical.{canonical}
+use Rattle.oa_idl.specs.promise.Trees.{TreeValue}
+use Rattle.oa_image.specs.promise.Tables.{is_numbered}
+use Rattle.oa_journal.specs.promise.Bank.{WritesNothing}
+use Rattle.oa_journal.specs.declared.shape.BankFormat.TheVariants.{One}
+use Rattle.oa_store.specs.promise.Stores.{checkpoint_calls, IsStoreAt}
+use Rattle.oa_store.specs.Calls.{format_calls}
+use Rattle.oa_store.specs.Changes.{IsNoneOrFirst}
+use Rattle.oa_store.specs.promise.Changes.{IsUpgrade}
+use Rattle.oa_store.specs.promise.Faults.{IsMigrated}
 use Rattle.oa_store.specs.declared.store.Store.{Store}
-use Rattle.oa_table.specs.Tables.{TableValue, unlocked_table}
+use Rattle.oa_table.specs.promise.Tables.{TableValue, unlocked_table}
 use Rattle.oa_history.specs.declared.session.Stop.{Stop}
 
 -- A disk with these contents was formatted with the library, and crashed. It has the old contents except for the
@@ -41,7 +37,7 @@ pub record IsStoppedUpgrading (found : List ℕ) (bank : ℕ) (stop : Stop) (dis
     (left : List ℕ) : Type 0 where
   pub either : IsUpgrade bank found left
   pub torn : IsTornAt disk stop.tear (min stop.moment (moments_of disk)) left
-  pub brought : IsBrought bank found (image_of disk)
+  pub brought : IsMigrated bank found (memory_image disk)
   pub chosen : ℕ
   pub gate : ℕ
   pub was : IsStoreAt One chosen gate brought.was.library brought.was.table found
@@ -59,19 +55,3 @@ pub record IsFoundStore {D : Type 0} {g : Ghosts D} (disk : D) (store : Store D 
   pub reads : WritesNothing g.image g.moment g.image_since disk store.disk
   pub calls : IsTrue (g.is_honest store.disk)
       → g.moment store.disk + length store.library.items ≤ g.moment disk + (20 + store.bank.gate)
-
--- The state that was found in one bank is in the other one, without groups, after the last call of the disk. What is
--- left is what a crash of the disk at that point in time leaves, with that tear, and it is a store of the state at
--- every such point. At most the calls of one opening and of one checkpoint were made.
-pub record IsCheckpointed (found : List ℕ) (stop : Stop) (disk : MemoryDisk) (left : List ℕ)
-    (state : State) : Type 0 where
-  pub chosen : ℕ
-  pub gate : ℕ
-  pub was : IsStoreAt (Two state.bank) chosen gate (canonical state.library) (held_of state) found
-  pub is : (c : List ℕ) → image_of disk c
-      → IsStoreAt (Two state.bank) (1 - chosen) (first_gate (canonical state.library) (held_of state))
-      (canonical state.library) (held_of state) c
-  pub torn : IsTornAt disk stop.tear (min stop.moment (moments_of disk)) left
-  pub calls : moments_of disk + length (canonical state.library)
-      ≤ 20 + gate + 2 * checkpoint_calls (canonical state.library) (held_of state)
-  pub holds : HoldsState requests state left

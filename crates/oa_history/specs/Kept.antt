@@ -1,43 +1,30 @@
--- A disk between two sessions, and its recovery.
-use Rattle.std.specs.Prelude.{◌≡◌, ◌<◌, ℕ, List, false, [], ⊤}
-use Rattle.oa_disk.specs.Disk.{NothingPending}
-use Rattle.oa_disk.specs.Memory.{contents_of, image_of, moments_of}
+-- Definitions for contracts and proofs, beside promise/CrashHistories.
+use Rattle.std.specs.Prelude.{◌≡◌, ◌<◌, ℕ, List, ⊤}
+use Rattle.oa_disk.specs.promise.Memory.{memory_contents}
 use Rattle.oa_disk.specs.declared.disk.DeviceFault.TheVariants as devices
-use Rattle.oa_disk.specs.declared.disk.Disk.{Ghosts}
 use Rattle.oa_disk.specs.declared.memory.MemoryDisk.{MemoryDisk}
-use Rattle.oa_canonical.specs.Canonical.{canonical}
-use Rattle.oa_groups.specs.Runs.{HoldsState}
-use Rattle.oa_groups.specs.Sessions.{Sitting}
-use Rattle.oa_groups.specs.Turns.{Turns}
-use Rattle.oa_keeps.specs.declared.library_text.TextError.TheVariants as texts
-use Rattle.oa_journal.specs.Shapes.{disk_bytes}
-use Rattle.oa_journal.specs.declared.shape.Shape.TheVariants.{One, Two}
-use Rattle.oa_turn.specs.Beginnings.{CanBegin}
-use Rattle.oa_turn.specs.Events.{held_of}
-use Rattle.oa_server.specs.Openings.{IsOpened}
-use Rattle.oa_server.specs.Requests.{opened, requests}
-use Rattle.oa_decision.specs.States.{State}
-use Rattle.oa_server.specs.Storages.{OverStore}
-use Rattle.oa_server.specs.declared.server.Server.{Server}
-use Rattle.oa_store.specs.Faults.{SpeaksOfContents}
+use Rattle.oa_printer.specs.promise.Canonical.{canonical}
+use Rattle.oa_group_commit.specs.promise.Groups.{HoldsState}
+use Rattle.oa_compat.specs.declared.library_text.TextError.TheVariants as texts
+use Rattle.oa_journal.specs.promise.Bank.{disk_bytes}
+use Rattle.oa_journal.specs.declared.shape.BankFormat.TheVariants.{One, Two}
+use Rattle.oa_turn.specs.promise.Beginnings.{CanBegin}
+use Rattle.oa_turn.specs.promise.Events.{held_of}
+use Rattle.oa_server.specs.promise.ServerMachine.{opened, server_machine}
+use Rattle.oa_decision.specs.promise.States.{State}
+use Rattle.oa_store.specs.promise.Faults.{SpeaksOfContents}
 use Rattle.oa_store.specs.declared.fault.FormatFault.{FormatFault}
 use Rattle.oa_store.specs.declared.fault.FormatFault.TheVariants as formats
 use Rattle.oa_store.specs.declared.fault.UpgradeFault.{UpgradeFault}
 use Rattle.oa_store.specs.declared.fault.UpgradeFault.TheVariants as upgrades
 use Rattle.oa_store.specs.declared.fault.WriteFault.TheVariants as writes
-use Rattle.oa_store.specs.Stores.{IsStoreIn}
-use Rattle.oa_store.specs.declared.store.Store.{Store}
+use Rattle.oa_store.specs.promise.Stores.{IsStoreIn}
 use Rattle.oa_history.specs.declared.fault.HistoryFault.{HistoryFault}
 use Rattle.oa_history.specs.declared.fault.HistoryFault.TheVariants.{Format, Upgrade, Open, Checkpoint, Text, Memory}
 
--- A disk that was just made, or found after a crash: its clock is at 0, and a crash leaves what a read returns.
-pub record IsFreshDisk (disk : MemoryDisk) : Type 0 where
-  pub start : moments_of disk ≡ 0
-  pub alone : NothingPending contents_of image_of disk
-
 -- The disk is a store of the state, with which a server may begin. There are no locks.
-pub record IsKept (disk : MemoryDisk) (state : State) : Type 0 where
-  pub holds : HoldsState requests state (contents_of disk)
+pub record IsRecoverable (disk : MemoryDisk) (state : State) : Type 0 where
+  pub holds : HoldsState server_machine state (memory_contents disk)
   pub begins : CanBegin state
   pub unlocked : opened state ≡ state
 
@@ -48,18 +35,6 @@ pub record CanBecome (bank : ℕ) (contents : List ℕ) (state : State) : Type 0
   pub banks : bank ≡ state.bank
   pub begins : CanBegin state
   pub unlocked : opened state ≡ state
-
--- A session of a server was begun on the disk: it serves the state, and there were no requests yet.
-pub record Sits {S R D : Type 0} {g : Ghosts D} (t : Turns S R) (disk : D) (store : Store D g)
-    (state : S) : Type 0 where
-  pub goes_on : store.stopped ≡ false
-  pub sits : Sitting t disk store state state []
-
--- It was opened on that very disk: nothing was written, and at most the calls of an opening were made.
-pub record BeginsServing {D : Type 0} {g : Ghosts D} (disk : D) (server : Server D g) (state : State) : Type 0 where
-  pub host : server.engine.host ≡ state
-  pub found : OverStore server.engine.storage (λ store. IsOpened g disk state.library store state.table)
-  pub over : OverStore server.engine.storage (λ store. Sits requests disk store state)
 
 -- Why a valid store has no history: an allocation failed, the log of a disk was full, or a call of it failed. No
 -- opening was refused, and the text of each library is read.

@@ -1,8 +1,5 @@
 pub mod Between
 pub mod Framed
 pub mod Kept
-pub mod Lived
 pub mod OneGroup
-pub mod Stops
-pub mod Streamed
-pub mod Survived
+pub mod promise

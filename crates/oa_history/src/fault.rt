@@ -2,7 +2,7 @@
 ghost use Rattle.std.specs.Prelude.{◌≡◌};
 ghost use Rattle.oa_history.specs.declared.fault.HistoryFault.TheVariants.{Memory};
 
-use oa_keeps::TextError;
+use oa_compat::TextError;
 use oa_store::{FormatFault, OpenFault, UpgradeFault, WriteFault};
 use std::alloc::{AllocError, AllocFailed};
 use thiserror::Error;

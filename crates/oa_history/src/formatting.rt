@@ -1,11 +1,12 @@
 //! A new store whose formatting crashes.
 ghost use Rattle.std.specs.Prelude.{◌≤◌, IfOk, IfErr};
-ghost use Rattle.oa_disk.specs.Memory.{contents_of, moments_of};
-ghost use Rattle.oa_journal.specs.Shapes.{least_bank_bytes, most_bank_bytes};
-ghost use Rattle.oa_decision.specs.States.{state_of};
+ghost use Rattle.oa_disk.specs.promise.Memory.{memory_contents, moments_of};
+ghost use Rattle.oa_journal.specs.promise.Bank.{least_bank_bytes, most_bank_bytes};
+ghost use Rattle.oa_decision.specs.promise.States.{state_of};
 ghost use Rattle.oa_table.specs.Tables.{first_table};
 ghost use Rattle.oa_history.specs.Between.{IsStoppedFormatting};
-ghost use Rattle.oa_history.specs.Kept.{IsKept, IsFreshDisk, IsUnmade};
+ghost use Rattle.oa_history.specs.Kept.{IsRecoverable, IsUnmade};
+ghost use Rattle.oa_history.specs.promise.CrashHistories.{IsFreshDisk};
 
 use crate::HistoryFault;
 use oa_disk::{MemoryDisk, Tear};
@@ -14,9 +15,10 @@ use oa_store::format;
 use oa_typelib::Library;
 use std::alloc::Global;
 
-/// Formats the disk with the library and bodies of that size, and crashes at the given point in time. Returns the
-/// disk at the end, and the disk that the crash has left: it has the old contents except for the first byte, or no
-/// store, or the new store; at the end the new store.
+/// Formats the disk with `library` and bodies of `bank` bytes, and crashes at the point in time
+/// `moment`. Returns the disk at the end, and the disk that the crash has left. That has the old
+/// contents except for the first byte, or no store, or the new store; at the end the new store.
+/// Errors: `Format` if the disk was not formatted; `Memory`.
 pub fn formatted(
     alloc: Global,
     disk: MemoryDisk,
@@ -29,8 +31,8 @@ pub fn formatted(
     requires least { least_bank_bytes ≤ bank }
     requires most { bank ≤ most_bank_bytes }
     ensures settled { IfOk result (λ r. IsFreshDisk r.1) }
-    ensures formatted { IfOk result (λ r. IsStoppedFormatting (contents_of disk) library.now bank moment tear r.0 (contents_of r.1)) }
-    ensures kept { IfOk result (λ r. moments_of r.0 ≤ moment → IsKept r.1 (state_of bank library.now first_table)) }
+    ensures formatted { IfOk result (λ r. IsStoppedFormatting (memory_contents disk) library.now bank moment tear r.0 (memory_contents r.1)) }
+    ensures kept { IfOk result (λ r. moments_of r.0 ≤ moment → IsRecoverable r.1 (state_of bank library.now first_table)) }
     ensures wanting { IfErr result (IsUnmade bank disk.first.size) }
 {
     library.is_checked();

@@ -1,8 +1,9 @@
-//! Crash histories: sessions of a server on a disk in memory, one after another, by calls of the server or over a
-//! stream, of one client or of many, each of which crashes at a point in time of its disk's clock (`relive_on`;
-//! `relive` over a new store); and a session over a disk that fails from some call on (`survive_on`, `survive`).
+//! Crash histories: sessions of a server on a disk in memory, one after another. A session consists
+//! of calls of the server or of a stream, of one client or of many. It crashes at a point in time
+//! of its disk's clock (`run_history_on`; `run_history` over a new store). Also a session over a disk that
+//! fails from some call on (`run_with_faults_on`, `run_with_faults`).
 //!
-//! Contract: the crash theorem, as the contracts of these functions (`IsLived`, `IsSurvived`);
+//! Contract: the crash theorem, as the contracts of these functions (`IsCrashHistory`, `IsFaultHistory`);
 //! docs/internals/reading-the-proofs.md begins with them.
 //!
 //! Used only by its tests, oa_history_tests.
@@ -22,14 +23,14 @@ mod surviving;
 mod upgrading;
 
 pub use checkpointing::checkpointed;
-pub use failing::{Fused, Told, withstood};
+pub use failing::{CallOutcome, FaultyServer, session_with_faults};
 pub use fault::HistoryFault;
 pub use formatting::formatted;
-pub use history::{Lived, relive, relive_on};
+pub use history::{CrashHistory, run_history, run_history_on};
 pub use session::{
-    Answer, Asked, Heard, Input, Opened, Replies, ServerCall, Session, SharedInput, Step, Stop,
-    Written, WrittenFrames,
+    Answer, Asked, CrashedSession, Opened, Replies, ServerCall, SharedInput, Step, Stop,
+    StreamInput, Transcript, Written, WrittenFrames,
 };
 pub use stopping::stopped;
-pub use surviving::{Survived, survive, survive_on};
+pub use surviving::{FaultHistory, run_with_faults, run_with_faults_on};
 pub use upgrading::upgraded;

@@ -6,7 +6,7 @@ use oa_disk::{MemoryDisk, Tear};
 use oa_frame::Framing;
 use oa_record::Reply;
 use oa_server::{Served, Server, SessionEnd};
-use oa_stream::Gathered;
+use oa_stream::VecSink;
 
 /// One call of a server: requests in groups of a size.
 #[derive(Drop)]
@@ -20,7 +20,8 @@ pub struct ServerCall {
 }
 
 impl ServerCall {
-    /// Makes a call of these requests, in groups of 1 to 1,024.
+    /// Makes a call of these requests, one body each, in groups of at most `group` requests, from 1
+    /// to 1,024.
     pub fn new(bodies: Vec<Vec<u8>>, group: usize) -> ServerCall
         requires some { 1 ≤ group }
         requires few { group ≤ max_group }
@@ -33,7 +34,7 @@ impl ServerCall {
 
 /// The input of a session over a stream, and the size of its groups.
 #[derive(Drop)]
-pub struct Input {
+pub struct StreamInput {
     /// The bytes of the input.
     pub bytes: Vec<u8>,
     /// Whether they are lines of hexadecimal digits, or records.
@@ -44,16 +45,17 @@ pub struct Input {
     ghost few: { group ≤ max_group },
 }
 
-impl Input {
-    /// Makes an input of these bytes, whose requests are answered in groups of 1 to 1,024.
-    pub fn new(bytes: Vec<u8>, framing: Framing, group: usize) -> Input
+impl StreamInput {
+    /// Makes an input of these bytes, whose requests are answered in groups of at most `group`,
+    /// from 1 to 1,024.
+    pub fn new(bytes: Vec<u8>, framing: Framing, group: usize) -> StreamInput
         requires some { 1 ≤ group }
         requires few { group ≤ max_group }
         ensures bytes { result.bytes ≡ bytes }
         ensures framing { result.framing ≡ framing }
         ensures group { result.group ≡ group }
     {
-        Input {
+        StreamInput {
             bytes,
             framing,
             group,
@@ -73,7 +75,8 @@ pub struct SharedInput {
 }
 
 impl SharedInput {
-    /// Makes an input of these frames, whose requests are answered in groups of 1 to 1,024.
+    /// Makes an input of these frames, whose requests are answered in groups of at most `group`,
+    /// from 1 to 1,024.
     pub fn new(bytes: Vec<u8>, group: usize) -> SharedInput
         requires some { 1 ≤ group }
         requires few { group ≤ max_group }
@@ -84,24 +87,26 @@ impl SharedInput {
     }
 }
 
-/// The requests of a session: calls of a server, one after another, or a stream of one client or of many.
+/// The requests of a session: calls of a server, one after another, or a stream of one client or of
+/// many.
 #[derive(Drop)]
 pub enum Asked {
     /// Calls of a server, one after another.
     Calls(Vec<ServerCall>),
     /// The stream of one client.
-    Stream(Input),
+    Stream(StreamInput),
     /// The stream of many clients.
     Frames(SharedInput),
 }
 
 /// A session, and its crash.
 #[derive(Drop)]
-pub struct Session {
+pub struct CrashedSession {
     /// Its requests.
     pub asked: Asked,
-    /// The point in time of its crash, by its disk's clock, which begins at 0 with the opening: `2k - 1` lies within
-    /// call k of the disk, and `2k` after it. A point after the session's end counts as its end.
+    /// The point in time of its crash, by its disk's clock, which begins at 0 with the opening: `2k
+    /// - 1` lies within call k of the disk, and `2k` after it. A point after the session's end
+    ///   counts as its end.
     pub moment: u64,
     /// How the crash tears pending writes.
     pub tear: Tear,
@@ -120,7 +125,7 @@ pub struct Stop {
 #[derive(Drop)]
 pub enum Step {
     /// A session, with its crash.
-    Session(Session),
+    CrashedSession(CrashedSession),
     /// A checkpoint, with its crash.
     Checkpoint(Stop),
 }
@@ -138,8 +143,8 @@ pub struct Answer {
 #[derive(Drop)]
 pub struct Written {
     /// The writer, with the output.
-    pub output: Gathered,
-    /// How many requests were answered, and why the session ended.
+    pub output: VecSink,
+    /// The number of requests that were answered, and why the session ended.
     pub served: Served,
 }
 
@@ -147,7 +152,7 @@ pub struct Written {
 #[derive(Drop)]
 pub struct WrittenFrames {
     /// The writer, with the frames.
-    pub output: Gathered,
+    pub output: VecSink,
     /// Why the session ended.
     pub why: SessionEnd,
 }
@@ -165,7 +170,7 @@ pub enum Replies {
 
 /// The result of a step: the replies of a session, none for a checkpoint, and its disk at its end.
 #[derive(Drop)]
-pub struct Heard {
+pub struct Transcript {
     /// Its replies.
     pub replies: Replies,
     /// Its disk at its end.

@@ -1,31 +1,33 @@
 //! A session over a disk that fails, and what is found after it.
 ghost use Rattle.std.specs.Prelude.{◌≤◌, IfOk, IfErr};
-ghost use Rattle.oa_disk.specs.Memory.{contents_of};
-ghost use Rattle.oa_groups.specs.Runs.{HoldsState};
-ghost use Rattle.oa_journal.specs.Shapes.{least_bank_bytes, most_bank_bytes};
-ghost use Rattle.oa_turn.specs.Beginnings.{CanBegin};
-ghost use Rattle.oa_server.specs.Requests.{opened, requests};
-ghost use Rattle.oa_decision.specs.States.{State, state_of};
+ghost use Rattle.oa_disk.specs.promise.Memory.{memory_contents};
+ghost use Rattle.oa_group_commit.specs.promise.Groups.{HoldsState};
+ghost use Rattle.oa_journal.specs.promise.Bank.{least_bank_bytes, most_bank_bytes};
+ghost use Rattle.oa_turn.specs.promise.Beginnings.{CanBegin};
+ghost use Rattle.oa_server.specs.promise.ServerMachine.{opened, server_machine};
+ghost use Rattle.oa_decision.specs.promise.States.{State, state_of};
 ghost use Rattle.oa_table.specs.Tables.{first_table};
-ghost use Rattle.oa_history.specs.Kept.{IsFreshDisk, IsKept, IsUnmade, IsWanting};
-ghost use Rattle.oa_history.specs.Survived.{IsSurvived, IsSurvivedOn, IsTakenUp};
+ghost use Rattle.oa_history.specs.promise.CrashHistories.{IsFreshDisk};
+ghost use Rattle.oa_history.specs.Kept.{IsRecoverable, IsUnmade, IsWanting};
+ghost use Rattle.oa_history.specs.promise.FaultHistories.{IsFaultHistory, IsSurvivedOn, IsTakenUp};
 
 use crate::reopening::{begun, library_on, shown};
-use crate::{HistoryFault, Opened, ServerCall, Told, withstood};
-use oa_canonical::laws::marked_is_read;
+use crate::{CallOutcome, HistoryFault, Opened, ServerCall, session_with_faults};
 use oa_disk::{DeviceFault, Disk, FuseDisk, MemoryDisk};
 use oa_idl::laws::one_tree;
+use oa_printer::laws::marked_is_read;
 use oa_server::Server;
 use oa_server::laws::{an_opening_finds_what_was_kept, what_was_served_is_served_again};
 use oa_table::Table;
 use oa_typelib::Library;
 use std::alloc::Global;
 
-/// The replies of calls over a disk that fails from some call on, and what was found on it afterwards.
+/// The replies of calls over a disk that fails from some call on, and what was found on it
+/// afterwards.
 #[derive(Drop)]
-pub struct Survived {
+pub struct FaultHistory {
     /// The replies of each call of the server, or the fault of the device that its opening met.
-    pub told: Result<Vec<Told>, DeviceFault>,
+    pub told: Result<Vec<CallOutcome>, DeviceFault>,
     /// The canonical text of the library that was found.
     pub library: Vec<u8>,
     /// The table of objects that was found.
@@ -34,11 +36,12 @@ pub struct Survived {
     pub opened: Opened,
 }
 
-/// Opens the store on the disk with its own library, whatever is pending.
+/// Opens the store on the disk with its own library, whatever is pending. Errors: those of
+/// `library_on`; `Open`.
 fn taken_up(alloc: Global, disk: MemoryDisk) -> Result<Opened, HistoryFault>
-    ensures taken { IfOk result (λ r. (state : State) → HoldsState requests state (contents_of disk) → CanBegin state
+    ensures taken { IfOk result (λ r. (state : State) → HoldsState server_machine state (memory_contents disk) → CanBegin state
         → IsTakenUp disk r.server (opened state)) }
-    ensures wanting { IfErr result (λ fault. (state : State) → HoldsState requests state (contents_of disk) → CanBegin state
+    ensures wanting { IfErr result (λ fault. (state : State) → HoldsState server_machine state (memory_contents disk) → CanBegin state
         → IsWanting fault) }
 {
     one_tree();
@@ -51,31 +54,32 @@ fn taken_up(alloc: Global, disk: MemoryDisk) -> Result<Opened, HistoryFault>
     }
 }
 
-/// Opens a server on the disk, makes the calls, and takes the disk back. Each call of the disk from number
-/// `first_failing` on, counted from the opening's first, fails. Then it opens the returned disk, without failures.
+/// Opens a server on the disk, makes the calls, and takes the disk back. Each call of the disk from
+/// number `first_failing` on, counted from the opening's first, fails. Then it opens the returned
+/// disk, without failures.
 ///
-/// The replies are those of a run, group for group, up to the group in which the device fails: that group gets
-/// STG_E_WRITEFAULT, and later requests E_FAIL, without a call of the disk. The recovered state is the one after all
-/// answered groups, with the group in which the device failed or without it. If the opening met the fault, it is the
-/// old state.
+/// The replies are those of a run, group for group, up to the group in which the device fails. That
+/// group gets STG_E_WRITEFAULT, and later requests E_FAIL, without a call of the disk. The
+/// recovered state is the one after all answered groups, with the group in which the device failed
+/// or without it. If the opening met the fault, it is the old state.
 ///
-/// The disk must be a store, as for `relive_on`; Err as there.
-pub fn survive_on(
+/// The disk must be a store, as for `run_history_on`. Errors are those of `run_history_on`.
+pub fn run_with_faults_on(
     alloc: Global,
     disk: MemoryDisk,
     calls: &[ServerCall],
     first_failing: u64,
-) -> Result<Survived, HistoryFault>
+) -> Result<FaultHistory, HistoryFault>
     requires { IsFreshDisk disk }
-    ensures survived { IfOk result (λ survived. (state : State) → IsKept disk state
+    ensures survived { IfOk result (λ survived. (state : State) → IsRecoverable disk state
         → IsSurvivedOn ⟦<FuseDisk<MemoryDisk> as Disk>⟧ disk state calls.now first_failing survived) }
-    ensures wanting { IfErr result (λ fault. (state : State) → IsKept disk state → IsWanting fault) }
+    ensures wanting { IfErr result (λ fault. (state : State) → IsRecoverable disk state → IsWanting fault) }
 {
     what_was_served_is_served_again();
-    let (told, back) = withstood(alloc, disk, calls, first_failing)?;
+    let (told, back) = session_with_faults(alloc, disk, calls, first_failing)?;
     let (text, table) = shown(alloc, &back)?;
     let opened = taken_up(alloc, back)?;
-    Ok(Survived {
+    Ok(FaultHistory {
         told,
         library: text,
         table,
@@ -83,23 +87,22 @@ pub fn survive_on(
     })
 }
 
-/// Formats the disk with the library and bodies of that size, and then does what `survive_on` does.
-///
-/// Err: as of `relive`.
-pub fn survive(
+/// Formats the disk with `library` and bodies of `bank` bytes, and then does what `run_with_faults_on`
+/// does, and returns the same. Errors are those of `run_history`.
+pub fn run_with_faults(
     alloc: Global,
     library: &Library,
     bank: u32,
     disk: MemoryDisk,
     calls: &[ServerCall],
     first_failing: u64,
-) -> Result<Survived, HistoryFault>
+) -> Result<FaultHistory, HistoryFault>
     requires least { least_bank_bytes ≤ bank }
     requires most { bank ≤ most_bank_bytes }
-    ensures survived { IfOk result (IsSurvived ⟦<FuseDisk<MemoryDisk> as Disk>⟧ disk.first.size
+    ensures survived { IfOk result (IsFaultHistory ⟦<FuseDisk<MemoryDisk> as Disk>⟧ disk.first.size
         (state_of bank library.now first_table) calls.now first_failing) }
     ensures wanting { IfErr result (IsUnmade bank disk.first.size) }
 {
     let disk = begun(alloc, disk, library, bank)?;
-    survive_on(alloc, disk, calls, first_failing)
+    run_with_faults_on(alloc, disk, calls, first_failing)
 }

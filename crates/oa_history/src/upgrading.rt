@@ -1,21 +1,23 @@
 //! An upgrade of a store from format 1 to format 2, and its crash.
 ghost use Rattle.std.specs.Prelude.{◌≤◌, IfOk, IfErr};
-ghost use Rattle.oa_disk.specs.Memory.{contents_of, moments_of};
-ghost use Rattle.oa_journal.specs.Shapes.{least_bank_bytes, most_bank_bytes};
-ghost use Rattle.oa_decision.specs.States.{State};
+ghost use Rattle.oa_disk.specs.promise.Memory.{memory_contents, moments_of};
+ghost use Rattle.oa_journal.specs.promise.Bank.{least_bank_bytes, most_bank_bytes};
+ghost use Rattle.oa_decision.specs.promise.States.{State};
 ghost use Rattle.oa_history.specs.Between.{IsStoppedUpgrading};
-ghost use Rattle.oa_history.specs.Kept.{CanBecome, IsFreshDisk, IsKept, IsUnbrought};
+ghost use Rattle.oa_history.specs.Kept.{CanBecome, IsRecoverable, IsUnbrought};
+ghost use Rattle.oa_history.specs.promise.CrashHistories.{IsFreshDisk};
 
 use crate::{HistoryFault, Stop};
-use oa_canonical::laws::marked_is_read;
 use oa_disk::MemoryDisk;
+use oa_printer::laws::marked_is_read;
 use oa_store::laws::what_can_be_brought_is_not_refused;
 use oa_store::upgrade;
 use std::alloc::Global;
 
-/// Upgrades the store of format 1 on the disk to format 2 with bodies of that size, and crashes. Returns the disk at
-/// the end, and the disk that the crash has left: it is the same store in the old format or the new one, at the end
-/// in the new one. A server may begin with it if it could with a state of such banks.
+/// Upgrades the store of format 1 on the disk to format 2 with bodies of `bank` bytes, and crashes
+/// at `stop`. Returns the disk at the end, and the disk that the crash has left. That is the same
+/// store in the old format or the new one; at the end in the new one. A server may begin with it if
+/// it could with a state of such banks. Errors: `Upgrade` if the store was not upgraded; `Memory`.
 pub fn upgraded(
     alloc: Global,
     disk: MemoryDisk,
@@ -26,10 +28,10 @@ pub fn upgraded(
     requires least { least_bank_bytes ≤ bank }
     requires most { bank ≤ most_bank_bytes }
     ensures settled { IfOk result (λ r. IsFreshDisk r.1) }
-    ensures upgraded { IfOk result (λ r. IsStoppedUpgrading (contents_of disk) bank stop r.0 (contents_of r.1)) }
-    ensures kept { IfOk result (λ r. moments_of r.0 ≤ stop.moment → (state : State) → CanBecome bank (contents_of disk) state
-        → IsKept r.1 state) }
-    ensures wanting { IfErr result (λ fault. (state : State) → CanBecome bank (contents_of disk) state
+    ensures upgraded { IfOk result (λ r. IsStoppedUpgrading (memory_contents disk) bank stop r.0 (memory_contents r.1)) }
+    ensures kept { IfOk result (λ r. moments_of r.0 ≤ stop.moment → (state : State) → CanBecome bank (memory_contents disk) state
+        → IsRecoverable r.1 state) }
+    ensures wanting { IfErr result (λ fault. (state : State) → CanBecome bank (memory_contents disk) state
         → IsUnbrought bank disk.first.size fault) }
 {
     marked_is_read();

@@ -1,16 +1,20 @@
 //! Histories with larger banks than the smallest, and histories of a store of format 1.
 ghost use Rattle.std.specs.Prelude.{IfSome};
-ghost use Rattle.oa_history.specs.Kept.{IsFreshDisk};
+ghost use Rattle.oa_history.specs.promise.CrashHistories.{IsFreshDisk};
 
 use crate::script::{
     BANK, END, are_told, calls_of, first, left_by, library, place_in, read_by, reads,
 };
 use oa_disk::{Disk, MemoryDisk, Tear};
-use oa_history::{Asked, Lived, Session, Step, Stop, relive, relive_on, survive_on, upgraded};
+use oa_history::{
+    Asked, CrashHistory, CrashedSession, Step, Stop, run_history, run_history_on,
+    run_with_faults_on, upgraded,
+};
 use oa_typelib::Library;
 use std::alloc::Global;
 use std::rt::HostRuntime;
 
+/// A crash at the end.
 const AT_END: Stop = Stop {
     moment: END,
     tear: Tear::Lost,
@@ -18,7 +22,7 @@ const AT_END: Stop = Stop {
 
 /// Returns a session of these requests, one per group, with a crash at its end.
 fn session_of(alloc: Global, lines: &[&str]) -> Option<Step> {
-    Some(Step::Session(Session {
+    Some(Step::CrashedSession(CrashedSession {
         asked: Asked::Calls(calls_of(alloc, lines, 1)?),
         moment: END,
         tear: Tear::Lost,
@@ -34,7 +38,7 @@ fn steps_of(alloc: Global, lines: &[&str]) -> Option<Vec<Step>> {
 }
 
 /// Returns whether all requests of the first session are kept at the end of a history.
-fn holds_all(alloc: Global, library: &Library, lived: &mut Lived) -> bool {
+fn holds_all(alloc: Global, library: &Library, lived: &mut CrashHistory) -> bool {
     let Some(last) = lived.heard.last() else {
         return false;
     };
@@ -48,7 +52,7 @@ fn over_larger_banks(alloc: Global) -> Option<bool> {
     let library = library(alloc)?;
     let disk = MemoryDisk::new(alloc, 117_448_704, 200, 4000).ok()?;
     let steps = steps_of(alloc, first())?;
-    match relive(alloc, &library, 41_943_040, disk, steps.as_slice()) {
+    match run_history(alloc, &library, 41_943_040, disk, steps.as_slice()) {
         Ok(mut lived) => Some(holds_all(alloc, &library, &mut lived)),
         Err(_) => None,
     }
@@ -69,8 +73,8 @@ static CREATED: [u8; 27] = [
     0xbb, 0xcc, 0xdd, 0xee, 0xff, 3, 0,
 ];
 
-/// Returns a store of format 1 with the library: in bank 0 the head, the library, a snapshot of no objects, and that
-/// group.
+/// Returns a store of format 1 with the library: in bank 0 the head, the library, a snapshot of no
+/// objects, and that group.
 fn old_store(alloc: Global, library: &Library) -> Option<MemoryDisk>
     ensures { IfSome result IsFreshDisk }
 {
@@ -102,17 +106,17 @@ fn new_store_of(alloc: Global, library: &Library) -> Option<MemoryDisk>
 fn over_an_old_store(alloc: Global) -> Option<bool> {
     let library = library(alloc)?;
     let steps = steps_of(alloc, first().get(1..)?)?;
-    match relive_on(alloc, new_store_of(alloc, &library)?, steps.as_slice()) {
+    match run_history_on(alloc, new_store_of(alloc, &library)?, steps.as_slice()) {
         Ok(mut lived) => Some(holds_all(alloc, &library, &mut lived)),
         Err(_) => None,
     }
 }
 
-/// Runs this history with `survive_on`, on a disk whose calls do not fail.
+/// Runs this history with `run_with_faults_on`, on a disk whose calls do not fail.
 fn survives_over_an_old_store(alloc: Global) -> Option<bool> {
     let library = library(alloc)?;
     let calls = calls_of(alloc, first().get(1..)?, 1)?;
-    match survive_on(alloc, new_store_of(alloc, &library)?, calls.as_slice(), END) {
+    match run_with_faults_on(alloc, new_store_of(alloc, &library)?, calls.as_slice(), END) {
         Ok(mut survived) => Some(read_by(alloc, &mut survived.opened.server, 5, 5) == Some(5)),
         Err(_) => None,
     }

@@ -1,5 +1,5 @@
-//! A format with a crash at each point in time returns. What each crash leaves is a test of the program
-//! (`tests/program/test_crashes.py`).
+//! A format with a crash at each point in time returns. What each crash leaves is a test of the
+//! program (`tests/program/test_crashes.py`).
 use crate::script::{BANK, library, new_disk};
 use oa_disk::Tear;
 use oa_history::formatted;

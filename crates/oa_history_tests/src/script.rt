@@ -1,11 +1,12 @@
-//! A script of two sessions with a checkpoint between them: the requests, the replies, the values that are read after
-//! each prefix of the requests, and functions that run the script.
+//! A script of two sessions with a checkpoint between them: the requests, the replies, the values
+//! that are read after each prefix of the requests, and functions that run the script.
 ghost use Rattle.std.specs.Prelude.{◌≤◌, IfSome};
-ghost use Rattle.oa_history.specs.Kept.{IsFreshDisk};
+ghost use Rattle.oa_history.specs.promise.CrashHistories.{IsFreshDisk};
 
 use oa_disk::{MemoryDisk, Tear};
 use oa_history::{
-    Answer, Asked, Heard, Replies, ServerCall, Session, Stop, checkpointed, formatted, stopped,
+    Answer, Asked, CrashedSession, Replies, ServerCall, Stop, Transcript, checkpointed, formatted,
+    stopped,
 };
 use oa_idl::parse;
 use oa_record::Reply;
@@ -15,12 +16,13 @@ use oa_typelib::{Library, check};
 use std::alloc::Global;
 use std::process::Abort;
 
+/// The text of the library.
 const SMALL: &str = "[uuid(11223344-5566-7788-99AA-BBCCDDEEFF01), version(1.0)] library Demo {
 [uuid(11223344-5566-7788-99AA-BBCCDDEEFF02)] dispinterface DItem { properties: [id(1)] long Count; [id(2)] BSTR Name; [id(8)] SAFEARRAY(short) Grid; }
 [uuid(11223344-5566-7788-99AA-BBCCDDEEFF03)] coclass Item { [default] dispinterface DItem; } }";
 
-/// The first session creates an object, puts its count, its name and its grid, and changes the first bound of the
-/// grid.
+/// The first session creates an object, puts its count, its name and its grid, and changes the
+/// first bound of the grid.
 static FIRST: [&str; 5] = [
     "0100000001000000443322116655887799aabbccddeeff03",
     "02000000040000000100000001000000000000000000000000000000000000000000000000000000000000000000000000000000040000000100000001000000fdffffff000000001800000000000000030000000000000003000000000000000300000007000000",
@@ -53,6 +55,7 @@ static READS: [&str; 3] = [
     "0a000000040000000100000008000000000000000000000000000000000000000000000000000000000000000000000000000000020000000000000000000000",
 ];
 
+/// The replies to `READS` if there is no object.
 const GONE: &str = "0800000008010180ffffffff00000000
 0900000008010180ffffffff00000000
 0a00000008010180ffffffff00000000
@@ -103,7 +106,8 @@ pub(crate) fn reads() -> &'static [&'static str] {
     &READS
 }
 
-/// Returns the replies to the requests from number `from` to before number `to`, counted over both sessions.
+/// Returns the replies to the requests from number `from` to before number `to`, counted from 0
+/// over both sessions; None if there are fewer.
 pub(crate) fn replies(from: usize, to: usize) -> Option<&'static [&'static str]> {
     REPLIES.get(from..to)
 }
@@ -125,7 +129,7 @@ pub(crate) const TEARS: [Tear; 7] = [
     Tear::Cut(1),
 ];
 
-/// Decodes lines of hexadecimal digits.
+/// Decodes lines of hexadecimal digits. None if one is invalid, or an allocation fails.
 pub(crate) fn bodies_of(alloc: Global, lines: &[&str]) -> Option<Vec<Vec<u8>>> {
     let mut bodies = Vec::new(alloc);
     for line in lines {
@@ -134,7 +138,8 @@ pub(crate) fn bodies_of(alloc: Global, lines: &[&str]) -> Option<Vec<Vec<u8>>> {
     Some(bodies)
 }
 
-/// Returns calls with the requests in these lines, `group` requests in each. Each call is one group.
+/// Returns calls with the requests in these lines, `group` requests in each. Each call is one
+/// group. None if a line is invalid, or an allocation fails.
 pub(crate) fn calls_of(alloc: Global, lines: &[&str], group: usize) -> Option<Vec<ServerCall>>
     requires { 1 ≤ group }
 {
@@ -147,6 +152,7 @@ pub(crate) fn calls_of(alloc: Global, lines: &[&str], group: usize) -> Option<Ve
     Some(calls)
 }
 
+/// Adds the hexadecimal digits of bytes.
 fn put_digits(alloc: Global, text: &mut String, bytes: &[u8]) {
     if let Ok(digits) = hex::encode(alloc, bytes) {
         let _ = text.push_str(digits.as_str());
@@ -176,9 +182,9 @@ fn lines_of(alloc: Global, answers: &[Answer]) -> String {
     text
 }
 
-/// Returns whether a session has these replies: as lines, or as the bytes written to a stream that ended after this
-/// many requests.
-pub(crate) fn is_answered(alloc: Global, heard: &Heard, requests: usize, due: &[u8]) -> bool {
+/// Returns whether a session has these replies: as lines, or as the bytes written to a stream that
+/// ended after this many requests.
+pub(crate) fn is_answered(alloc: Global, heard: &Transcript, requests: usize, due: &[u8]) -> bool {
     match &heard.replies {
         Replies::Calls(answers) => {
             let text = lines_of(alloc, answers.as_slice());
@@ -194,7 +200,8 @@ pub(crate) fn is_answered(alloc: Global, heard: &Heard, requests: usize, due: &[
     }
 }
 
-/// Returns after how many of the requests these replies are read, from `least` to `most`.
+/// Returns the number of requests after which these replies are read, from `least` to `most`; None
+/// if there is none.
 fn place_of(text: &str, least: usize, most: usize) -> Option<usize> {
     let mut place = 0usize;
     for read in &READ {
@@ -206,8 +213,14 @@ fn place_of(text: &str, least: usize, most: usize) -> Option<usize> {
     None
 }
 
-/// Returns how many of the requests are kept according to a session that reads the three properties.
-pub(crate) fn place_in(alloc: Global, heard: &Heard, least: usize, most: usize) -> Option<usize> {
+/// Returns the number of kept requests, from `least` to `most`, according to a session that reads
+/// the three properties; None if there is no such number.
+pub(crate) fn place_in(
+    alloc: Global,
+    heard: &Transcript,
+    least: usize,
+    most: usize,
+) -> Option<usize> {
     match &heard.replies {
         Replies::Calls(answers) => {
             let text = lines_of(alloc, answers.as_slice());
@@ -226,8 +239,9 @@ fn answered(alloc: Global, server: &mut Server<MemoryDisk>, bodies: &[Vec<u8>]) 
     text
 }
 
-/// Returns how many of the requests the server has kept. Reads with one call of three groups and with a call for each
-/// request, which must agree.
+/// Returns the number of requests that the server has kept, from `least` to `most`; None if there
+/// is no such number. It reads with one call of three groups and with a call for each request,
+/// which must agree.
 pub(crate) fn read_by(
     alloc: Global,
     server: &mut Server<MemoryDisk>,
@@ -245,24 +259,25 @@ pub(crate) fn read_by(
     place_of(text.as_str(), least, most)
 }
 
-/// Returns a disk of zeros whose log has capacity for each test.
+/// Returns a disk of zeros whose log has capacity for each test; None if an allocation fails.
 pub(crate) fn new_disk(alloc: Global) -> Option<MemoryDisk>
     ensures { IfSome result IsFreshDisk }
 {
     MemoryDisk::new(alloc, 75_505_664, 200, 4000).ok()
 }
 
+/// Returns the library of `SMALL`; None if an allocation fails.
 pub(crate) fn library(alloc: Global) -> Option<Library> {
     check(alloc, parse(alloc, SMALL).ok()?).ok()
 }
 
-/// Returns whether the library and the table are those of a server after this many of the requests.
+/// Returns whether the library and the table are those of a server after `place` requests.
 pub(crate) fn are_told(library: &Library, text: &[u8], table: &Table, place: usize) -> bool {
     let next = if place == 0 { 1 } else { 2 };
     text == library.text() && table.next() == next
 }
 
-/// Returns a new store with the library.
+/// Returns a new store with the library; None if an allocation fails.
 pub(crate) fn new_store(alloc: Global) -> Option<MemoryDisk>
     ensures { IfSome result IsFreshDisk }
 {
@@ -273,19 +288,24 @@ pub(crate) fn new_store(alloc: Global) -> Option<MemoryDisk>
     }
 }
 
-/// Returns the disk after a power loss now with this tear.
+/// Returns the disk after a power loss now with this tear; None if an allocation fails.
 pub(crate) fn left_by(disk: &MemoryDisk, tear: Tear) -> Option<MemoryDisk>
     ensures { IfSome result IsFreshDisk }
 {
     disk.crash(disk.moments(), tear).ok()
 }
 
-/// Runs a session of these calls to its end. Returns its replies and the disk after it.
-fn played(alloc: Global, disk: MemoryDisk, calls: Vec<ServerCall>) -> Option<(Heard, MemoryDisk)>
+/// Runs a session of these calls to its end. Returns its replies and the disk after it; None if it
+/// cannot be run.
+fn played(
+    alloc: Global,
+    disk: MemoryDisk,
+    calls: Vec<ServerCall>,
+) -> Option<(Transcript, MemoryDisk)>
     requires { IsFreshDisk disk }
     ensures { IfSome result (λ r. IsFreshDisk r.1) }
 {
-    let session = Session {
+    let session = CrashedSession {
         asked: Asked::Calls(calls),
         moment: END,
         tear: Tear::Lost,
@@ -293,7 +313,8 @@ fn played(alloc: Global, disk: MemoryDisk, calls: Vec<ServerCall>) -> Option<(He
     stopped(alloc, disk, &session).ok()
 }
 
-/// Returns the store after the first session and the checkpoint.
+/// Returns the store after the first session, with `group` requests per call, and the checkpoint.
+/// None if one of them cannot be run.
 pub(crate) fn next_store(alloc: Global, store: MemoryDisk, group: usize) -> Option<MemoryDisk>
     requires some { 1 ≤ group }
     requires fresh { IsFreshDisk store }
@@ -310,7 +331,8 @@ pub(crate) fn next_store(alloc: Global, store: MemoryDisk, group: usize) -> Opti
     }
 }
 
-/// Returns how many of the requests a store has kept, by its three properties.
+/// Returns the number of requests that a store has kept, from `least` to `most`, by its three
+/// properties; None if there is no such number.
 pub(crate) fn read_of(alloc: Global, store: MemoryDisk, least: usize, most: usize) -> Option<usize>
     requires { IsFreshDisk store }
 {
@@ -318,7 +340,8 @@ pub(crate) fn read_of(alloc: Global, store: MemoryDisk, least: usize, most: usiz
     place_in(alloc, &heard, least, most)
 }
 
-/// Prints the counts. Fails the test if acknowledged requests were lost or the counts differ from those expected.
+/// Prints the counts. Fails the test if acknowledged requests were lost or the counts differ from
+/// those expected.
 pub(crate) fn expect(
     rt: &(impl Abort + Print),
     counts: &str,

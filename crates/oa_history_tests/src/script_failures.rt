@@ -7,15 +7,15 @@ use crate::script::{
     next_store, read_by, read_of, second,
 };
 use oa_disk::{DeviceFault, MemoryDisk, Tear};
-use oa_history::{ServerCall, Survived, Told, survive, withstood};
+use oa_history::{CallOutcome, FaultHistory, ServerCall, run_with_faults, session_with_faults};
 use oa_model::HResult;
 use oa_server::Server;
 use oa_typelib::Library;
 use std::alloc::Global;
 use std::rt::HostRuntime;
 
-/// The expected state after a session on a disk that fails: how many requests are kept without and with the group
-/// that failed, whether a call failed, and whether the store was opened.
+/// The expected state after a session on a disk that fails: how many requests are kept without and
+/// with the group that failed, whether a call failed, and whether the store was opened.
 #[derive(Clone, Copy)]
 struct Due {
     least: usize,
@@ -24,9 +24,10 @@ struct Due {
     opened: bool,
 }
 
-/// Returns the expected state after calls with these replies, or `None` if the replies or the counts of failures are
-/// wrong. Successful requests come first, then those of the group that failed, and then all others.
-fn due_of_calls(all: &[Told], first: usize) -> Option<Due> {
+/// Returns the expected state after calls with these replies, or `None` if the replies or the
+/// counts of failures are wrong. Successful requests come first, then those of the group that
+/// failed, and then all others.
+fn due_of_calls(all: &[CallOutcome], first: usize) -> Option<Due> {
     let mut least = first;
     let mut most = first;
     let mut late = false;
@@ -56,9 +57,13 @@ fn due_of_calls(all: &[Told], first: usize) -> Option<Due> {
     })
 }
 
-/// Returns the expected state after these calls. An open that fails returns the kind of call that failed: the first
-/// call is a sync, the others are reads.
-fn due_of(told: &Result<Vec<Told>, DeviceFault>, first: usize, first_failing: u64) -> Option<Due> {
+/// Returns the expected state after these calls. An open that fails returns the kind of call that
+/// failed: the first call is a sync, the others are reads.
+fn due_of(
+    told: &Result<Vec<CallOutcome>, DeviceFault>,
+    first: usize,
+    first_failing: u64,
+) -> Option<Due> {
     match told {
         Ok(all) => due_of_calls(all.as_slice(), first),
         Err(fault) => {
@@ -83,8 +88,8 @@ fn read_as_it_is(alloc: Global, disk: MemoryDisk, least: usize, most: usize) -> 
     }
 }
 
-/// Cuts the power now with each tear. Returns the number of power losses if each keeps the expected requests, with or
-/// without the group that failed.
+/// Cuts the power now with each tear. Returns the number of power losses if each keeps the expected
+/// requests, with or without the group that failed.
 fn losses_of(alloc: Global, disk: &MemoryDisk, due: Due) -> Option<u64> {
     let mut count = 0u64;
     for tear in TEARS {
@@ -97,8 +102,8 @@ fn losses_of(alloc: Global, disk: &MemoryDisk, due: Due) -> Option<u64> {
     Some(count)
 }
 
-/// Returns the kind of failure if this many requests are kept: 0 if the open failed, 1 if the group that failed is
-/// kept whole, 2 if it is not kept.
+/// Returns the kind of failure if this many requests are kept: 0 if the open failed, 1 if the group
+/// that failed is kept whole, 2 if it is not kept.
 fn kind_of(due: Due, place: usize) -> Option<usize> {
     if !due.opened {
         Some(0)
@@ -111,11 +116,11 @@ fn kind_of(due: Due, place: usize) -> Option<usize> {
     }
 }
 
-/// Returns the expected state after calls on a disk, how many requests are kept on the disk that the calls returned,
-/// and the number of power losses that were tried.
+/// Returns three results of calls on a disk: the expected state after them, the number of requests
+/// that are kept on the disk that they returned, and the number of power losses that were tried.
 fn found_behind(
     alloc: Global,
-    told: &Result<Vec<Told>, DeviceFault>,
+    told: &Result<Vec<CallOutcome>, DeviceFault>,
     back: MemoryDisk,
     first: usize,
     first_failing: u64,
@@ -135,13 +140,13 @@ fn failed(
     first_failing: u64,
 ) -> Option<(Due, usize, u64)> {
     let disk = left_by(disk, Tear::Kept)?;
-    let (told, back) = withstood(alloc, disk, calls, first_failing).ok()?;
+    let (told, back) = session_with_faults(alloc, disk, calls, first_failing).ok()?;
     found_behind(alloc, &told, back, first, first_failing)
 }
 
-/// Runs these calls, after `first` requests, on disks that fail from each call on, up to one that does not fail.
-/// Returns how often the open failed, how often the group that failed was kept whole, how often it was not kept, and
-/// the number of power losses that were tried.
+/// Runs these calls, after `first` requests, on disks that fail from each call on, up to one that
+/// does not fail. Counts what happened: the open failed, the group that failed was kept whole, it
+/// was not kept. The last count is the number of power losses that were tried.
 fn failures(
     alloc: Global,
     disk: &MemoryDisk,
@@ -163,11 +168,11 @@ fn failures(
     None
 }
 
-/// Returns the expected state after the calls of `survive`, and how many of the requests are kept.
+/// Returns the expected state after the calls of `run_with_faults`, and how many of the requests are kept.
 fn found_by(
     alloc: Global,
     library: &Library,
-    survived: &mut Survived,
+    survived: &mut FaultHistory,
     first_failing: u64,
 ) -> Option<(Due, usize)> {
     let due = due_of(&survived.told, 0, first_failing)?;
@@ -179,18 +184,19 @@ fn found_by(
     }
 }
 
-/// Runs these calls with `survive` on a new store, on a disk that fails from call `first_failing` on.
+/// Runs these calls with `run_with_faults` on a new store, on a disk that fails from call `first_failing`
+/// on.
 fn survived(alloc: Global, calls: &[ServerCall], first_failing: u64) -> Option<(Due, usize)> {
     let library = library(alloc)?;
     let disk = new_disk(alloc)?;
-    match survive(alloc, &library, BANK, disk, calls, first_failing) {
+    match run_with_faults(alloc, &library, BANK, disk, calls, first_failing) {
         Ok(mut survived) => found_by(alloc, &library, &mut survived, first_failing),
         Err(_) => None,
     }
 }
 
-/// Runs the first session as `failures` does, but with `survive`, without power losses, and checks the library and
-/// the table that it returns.
+/// Runs the first session as `failures` does, but with `run_with_faults`, without power losses, and checks
+/// the library and the table that it returns.
 fn survivals(alloc: Global, group: usize) -> Option<[u64; 4]>
     requires { 1 ≤ group }
 {
@@ -226,10 +232,10 @@ fn second_failures(alloc: Global, group: usize) -> Option<[u64; 4]>
     failures(alloc, &store, calls.as_slice(), 5)
 }
 
-/// Returns the expected counts for a session of this many groups, with this many power losses after each failure.
-/// Each call of the disk fails once. If the write of a group, its sync or the write of its gate byte fails, the group
-/// is not kept: a call that fails has no effect. If the sync after the gate byte fails, the gate byte is written, and
-/// the group is read.
+/// Returns the expected counts for a session of this many groups, with this many power losses after
+/// each failure. Each call of the disk fails once. If the write of a group, its sync or the write
+/// of its gate byte fails, the group is not kept: a call that fails has no effect. If the sync
+/// after the gate byte fails, the gate byte is written, and the group is read.
 fn due_by(groups: u16, losses: u16) -> [u64; 4] {
     let whole = u64::from(groups);
     let calls = OPENING + COMMIT * whole;
@@ -241,6 +247,7 @@ fn due_by(groups: u16, losses: u16) -> [u64; 4] {
     ]
 }
 
+/// The names of the counts.
 const COUNTS: &str = "openings that fail, groups found, groups not found, and losses of power";
 
 #[test]

@@ -1,6 +1,7 @@
-//! The script as histories of `relive`. In each, one of the three steps crashes, at each point in time with each
-//! tear, and then the open after it at each of its own points, one after another. The sessions are calls or streams.
-//! A session after all crashes and the server that the history returns read what is kept.
+//! The script as histories of `run_history`. In each, one of the three steps crashes, at each point in
+//! time with each tear, and then the open after it at each of its own points, one after another.
+//! The sessions are calls or streams. A session after all crashes and the server that the history
+//! returns read what is kept.
 ghost use Rattle.std.specs.Prelude.{◌≤◌};
 ghost use Rattle.oa_model.specs.Limits.{max_group};
 
@@ -10,12 +11,15 @@ use crate::script::{
     read_by, reads, replies, second,
 };
 use oa_frame::Framing;
-use oa_history::{Asked, Heard, Input, Lived, Session, Step, Stop, relive};
+use oa_history::{
+    Asked, CrashHistory, CrashedSession, Step, Stop, StreamInput, Transcript, run_history,
+};
 use oa_typelib::Library;
 use std::alloc::Global;
 use std::rt::HostRuntime;
 
-/// The form of the sessions: the number of requests per group, and the framing of a stream, or calls.
+/// The form of the sessions: the number of requests per group, and the framing of a stream, or
+/// calls.
 #[derive(Clone, Copy)]
 struct Way {
     group: usize,
@@ -54,7 +58,7 @@ fn asked_of(alloc: Global, lines: &[&str], way: Way) -> Option<Asked> {
     match way.framing {
         Some(framing) => {
             let bytes = bytes_of(alloc, lines, framing)?;
-            Some(Asked::Stream(Input::new(bytes, framing, way.group)))
+            Some(Asked::Stream(StreamInput::new(bytes, framing, way.group)))
         }
         None => Some(Asked::Calls(calls_of(alloc, lines, way.group)?)),
     }
@@ -62,12 +66,12 @@ fn asked_of(alloc: Global, lines: &[&str], way: Way) -> Option<Asked> {
 
 /// Adds a session with this input.
 fn add(steps: &mut Vec<Step>, asked: Asked, stop: Stop) -> Option<()> {
-    let session = Session {
+    let session = CrashedSession {
         asked,
         moment: stop.moment,
         tear: stop.tear,
     };
-    steps.push(Step::Session(session)).ok()
+    steps.push(Step::CrashedSession(session)).ok()
 }
 
 /// Adds one of the three steps of the script: a session, a checkpoint, and another session.
@@ -105,20 +109,26 @@ fn add_all(alloc: Global, steps: &mut Vec<Step>, step: usize, way: Way, stop: St
     add(steps, Asked::Calls(calls_of(alloc, reads(), 3)?), end)
 }
 
-/// How many of the requests were made before each step, and how many by its end.
+/// The number of requests before each step, and the number by its end.
 static BOUNDS: [(usize, usize); 3] = [(0, 5), (5, 5), (5, 7)];
 
-/// Returns whether a step of the script in this form has the replies to the requests from number `from` to before
-/// number `to`.
-fn is_due(alloc: Global, heard: &Heard, way: Way, from: usize, to: usize) -> Option<bool> {
+/// Returns whether a step of the script in this form has the replies to the requests from number
+/// `from` to before number `to`.
+fn is_due(alloc: Global, heard: &Transcript, way: Way, from: usize, to: usize) -> Option<bool> {
     let framing = way.framing.unwrap_or(Framing::HexLines);
     let due = bytes_of(alloc, replies(from, to)?, framing)?;
     Some(is_answered(alloc, heard, to.saturating_sub(from), due.as_slice()))
 }
 
-/// Returns how many of the requests were kept, or `None` if the step has other replies or a group that was committed
-/// before the crash is lost.
-fn kept_of(alloc: Global, heard: &[Heard], step: usize, way: Way, stop: Stop) -> Option<usize> {
+/// Returns the number of kept requests. None if the step has other replies, or a group that was
+/// committed before the crash is lost.
+fn kept_of(
+    alloc: Global,
+    heard: &[Transcript],
+    step: usize,
+    way: Way,
+    stop: Stop,
+) -> Option<usize> {
     let (before, behind) = *BOUNDS.get(step)?;
     if is_due(alloc, heard.get(step)?, way, before, behind) != Some(true) {
         return None;
@@ -128,12 +138,13 @@ fn kept_of(alloc: Global, heard: &[Heard], step: usize, way: Way, stop: Stop) ->
     place_in(alloc, heard.last()?, least.min(behind), behind)
 }
 
-/// Checks the replies of a history, its library, its table and the reads of its server. Returns the last point in
-/// time of the step that crashed, and the number of opens: one for each step, and the last one.
+/// Checks the replies of a history, its library, its table and the reads of its server. Returns the
+/// last point in time of the step that crashed, and the number of opens: one for each step, and the
+/// last one.
 fn ends_of(
     alloc: Global,
     library: &Library,
-    lived: &mut Lived,
+    lived: &mut CrashHistory,
     step: usize,
     way: Way,
     stop: Stop,
@@ -148,20 +159,21 @@ fn ends_of(
     Some((heard.get(step)?.disk.moments(), openings))
 }
 
-/// Runs one history. Returns the last point in time of the step that crashed, and the number of opens.
+/// Runs one history. Returns the last point in time of the step that crashed, and the number of
+/// opens.
 fn history(alloc: Global, step: usize, way: Way, stop: Stop) -> Option<(u64, u64)> {
     let mut steps = Vec::new(alloc);
     add_all(alloc, &mut steps, step, way, stop)?;
     let library = library(alloc)?;
     let disk = new_disk(alloc)?;
-    match relive(alloc, &library, BANK, disk, steps.as_slice()) {
+    match run_history(alloc, &library, BANK, disk, steps.as_slice()) {
         Ok(mut lived) => ends_of(alloc, &library, &mut lived, step, way, stop),
         Err(_) => None,
     }
 }
 
-/// Crashes each of the three steps at each point in time with each tear. Returns the number of crashes of each step,
-/// and of the opens in all histories.
+/// Crashes each of the three steps at each point in time with each tear. Returns the number of
+/// crashes of each step, and of the opens in all histories.
 fn histories(alloc: Global, way: Way) -> Option<[u64; 4]> {
     let mut tried = [0u64; 4];
     for tear in TEARS {
@@ -177,9 +189,9 @@ fn histories(alloc: Global, way: Way) -> Option<[u64; 4]> {
     Some(tried)
 }
 
-/// Returns the expected counts for sessions of this many groups, with seven tears. A history has three opens if the
-/// first session crashes, four if the checkpoint does, five if the second session does, and in each case the opens
-/// that crash.
+/// Returns the expected counts for sessions of this many groups, with seven tears. A history has
+/// three opens if the first session crashes, four if the checkpoint does, and five if the second
+/// session does. In each case it also has the opens that crash.
 fn due(first: u16, second: u16) -> [u64; 4] {
     let (one, between, two) = (
         7 * session_moments(first),
@@ -191,6 +203,7 @@ fn due(first: u16, second: u16) -> [u64; 4] {
     [one, between, two, openings]
 }
 
+/// The names of the counts.
 const COUNTS: &str =
     "stops of the first session, of the checkpoint, of the second session, and openings";
 

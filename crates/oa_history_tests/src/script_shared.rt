@@ -1,6 +1,7 @@
-//! The script as histories of `relive` with many clients, which make the requests of the two sessions in turn. Each
-//! record comes in two frames, and the first frame of the next client is between them. One of the three steps
-//! crashes, at each point in time with each tear. The server that the history returns reads what is kept.
+//! The script as histories of `run_history` with many clients, which make the requests of the two
+//! sessions in turn. Each record comes in two frames, and the first frame of the next client is
+//! between them. One of the three steps crashes, at each point in time with each tear. The server
+//! that the history returns reads what is kept.
 ghost use Rattle.std.specs.Prelude.{◌≤◌, ◌<◌};
 ghost use Rattle.oa_model.specs.Limits.{max_group};
 
@@ -8,7 +9,9 @@ use crate::counts::{checkpoint_moments, groups_over, session_moments};
 use crate::script::{
     BANK, END, TEARS, are_told, expect, first, library, new_disk, read_by, replies, second,
 };
-use oa_history::{Asked, Heard, Lived, Replies, Session, SharedInput, Step, Stop, relive};
+use oa_history::{
+    Asked, CrashHistory, CrashedSession, Replies, SharedInput, Step, Stop, Transcript, run_history,
+};
 use oa_server::SessionEnd;
 use oa_typelib::Library;
 use std::alloc::Global;
@@ -47,7 +50,7 @@ fn record_of(alloc: Global, line: &str) -> Option<Vec<u8>> {
     Some(record)
 }
 
-/// Returns the client that makes the request with this number, from 0.
+/// Returns the client that makes request number `number`, counted from 0.
 fn client_of(way: Way, number: usize) -> Option<u32> {
     let number = u32::try_from(number).ok()?;
     Some((number % way.clients).saturating_add(1))
@@ -91,8 +94,8 @@ fn frames_of(alloc: Global, lines: &[&str], way: Way) -> Option<Vec<u8>> {
     Some(bytes)
 }
 
-/// Returns the frames that such a session sends: each reply to the client that made the request, and at the end a
-/// last frame to each of these clients.
+/// Returns the frames that such a session sends: each reply to the client that made the request,
+/// and at the end a last frame to each of these clients.
 fn due_frames(alloc: Global, lines: &[&str], way: Way) -> Option<Vec<u8>> {
     let mut bytes = Vec::new(alloc);
     let mut number = 0usize;
@@ -111,12 +114,12 @@ fn due_frames(alloc: Global, lines: &[&str], way: Way) -> Option<Vec<u8>> {
 
 /// Adds a session with these requests.
 fn add(alloc: Global, steps: &mut Vec<Step>, lines: &[&str], way: Way, stop: Stop) -> Option<()> {
-    let session = Session {
+    let session = CrashedSession {
         asked: Asked::Frames(SharedInput::new(frames_of(alloc, lines, way)?, way.group)),
         moment: stop.moment,
         tear: stop.tear,
     };
-    steps.push(Step::Session(session)).ok()
+    steps.push(Step::CrashedSession(session)).ok()
 }
 
 /// Adds one of the three steps of the script: a session, a checkpoint, and another session.
@@ -142,11 +145,12 @@ fn steps_to(alloc: Global, step: usize, way: Way, stop: Stop) -> Option<Vec<Step
     Some(steps)
 }
 
-/// How many of the requests were made before each step, and how many by its end.
+/// The number of requests before each step, and the number by its end.
 static BOUNDS: [(usize, usize); 3] = [(0, 5), (5, 5), (5, 7)];
 
-/// Returns the last point in time of a step whose replies are these frames, or `None` if it has other replies.
-fn end_of(heard: &Heard, due: &[u8]) -> Option<u64> {
+/// Returns the last point in time of a step whose replies are these frames, or `None` if it has
+/// other replies.
+fn end_of(heard: &Transcript, due: &[u8]) -> Option<u64> {
     match &heard.replies {
         Replies::Frames(written) => {
             if written.output.bytes() == due && written.why == SessionEnd::Closed {
@@ -166,7 +170,7 @@ fn end_of(heard: &Heard, due: &[u8]) -> Option<u64> {
     }
 }
 
-/// Returns how many requests must be kept after a crash at this point.
+/// Returns the number of requests that must be kept after a crash at this point.
 fn least_of(way: Way, stop: Stop, before: usize, behind: usize) -> Option<usize> {
     let over = usize::try_from(groups_over(stop.moment)).ok()?;
     let each = if way.now { 1 } else { way.group };
@@ -174,12 +178,12 @@ fn least_of(way: Way, stop: Stop, before: usize, behind: usize) -> Option<usize>
     Some(least.min(behind))
 }
 
-/// Checks the replies of a history, its library, its table and the reads of its server. Returns the last point in
-/// time of the step that crashed.
+/// Checks the replies of a history, its library, its table and the reads of its server. Returns the
+/// last point in time of the step that crashed.
 fn end_in(
     alloc: Global,
     library: &Library,
-    lived: &mut Lived,
+    lived: &mut CrashHistory,
     step: usize,
     way: Way,
     stop: Stop,
@@ -201,14 +205,14 @@ fn history(alloc: Global, step: usize, way: Way, stop: Stop) -> Option<u64> {
     let steps = steps_to(alloc, step, way, stop)?;
     let library = library(alloc)?;
     let disk = new_disk(alloc)?;
-    match relive(alloc, &library, BANK, disk, steps.as_slice()) {
+    match run_history(alloc, &library, BANK, disk, steps.as_slice()) {
         Ok(mut lived) => end_in(alloc, &library, &mut lived, step, way, stop),
         Err(_) => None,
     }
 }
 
-/// Crashes each of the three steps at each point in time with each tear. Returns the number of crashes of each step,
-/// and of all.
+/// Crashes each of the three steps at each point in time with each tear. Returns the number of
+/// crashes of each step, and of all.
 fn histories(alloc: Global, way: Way) -> Option<[u64; 4]> {
     let mut tried = [0u64; 4];
     for tear in TEARS {
@@ -234,6 +238,7 @@ fn due(first: u16, second: u16) -> [u64; 4] {
     [one, between, two, one + between + two]
 }
 
+/// The names of the counts.
 const COUNTS: &str = "stops of the first session, of the checkpoint, of the second session, of all";
 
 /// The sessions have five groups and two.
@@ -247,8 +252,8 @@ fn two_clients_in_groups_of_1(rt: HostRuntime) {
     expect(&rt, COUNTS, histories(rt.alloc(), way), due(5, 2));
 }
 
-/// The first session has two groups, the second of which also contains the end of a client; the second session has
-/// one.
+/// The first session has two groups, the second of which also contains the end of a client; the
+/// second session has one.
 #[test]
 fn three_clients_in_groups_of_3(rt: HostRuntime) {
     let way = Way {

@@ -10,17 +10,19 @@ use Rattle.oa_idl.specs.declared.stop.TreeLimit.TheVariants as limits
 use Rattle.oa_idl.specs.declared.stop.Limit.TheVariants as texts
 use Rattle.oa_idl.specs.declared.stop.ParseError.{ParseError}
 use Rattle.oa_idl.specs.declared.stop.ParseError.TheVariants as errors
-use Rattle.oa_idl.specs.Trees.{TreeValue}
-use Rattle.oa_tokens.specs.Tokens.{AreTokens}
-use Rattle.oa_idl.specs.Forms.{Word, Then, ◌▸◌, nothing, BeginsWithWords}
-use Rattle.oa_idl.specs.Words.{passes, word_of, words_of}
+use Rattle.oa_idl.specs.promise.Trees.{TreeValue}
+use Rattle.oa_tokens.specs.promise.Tokens.{AreTokens}
+use Rattle.oa_idl.specs.promise.Forms.{Word, Then, ◌▸◌, nothing}
+use Rattle.oa_idl.specs.Forms.{BeginsWithWords}
+use Rattle.oa_idl.specs.promise.Words.{passes, word_of, words_of}
 use Rattle.oa_idl.specs.Reading.ReadStep.{Got, Stuck}
-use Rattle.oa_idl.specs.Grammar.{sign, library}
+use Rattle.oa_idl.specs.promise.Grammar.{symbol, library}
 use Rattle.oa_idl.specs.GrammarReading.{library_at}
-use Rattle.oa_idl.specs.Limits.{KeepsLimit}
+use Rattle.oa_idl.specs.promise.Limits.{KeepsLimit}
 use Rattle.oa_idl.specs.TextLimits.{limit_of}
 use Rattle.oa_idl.specs.Parsed.{IsParsed}
-use Rattle.oa_idl.specs.IsTree.{MayBeText, IsTree, place_after, Refused, AnyTree, BrokenAt, BreaksLimit, AnswersText, AnswersTree}
+use Rattle.oa_idl.specs.promise.IsTree.{MayBeText, IsTree}
+use Rattle.oa_idl.specs.IsTree.{place_after, Refused, AnyTree, BrokenAt, BreaksLimit, AnswersText, AnswersTree}
 use Rattle.oa_idl.proofs.ChoiceParses.{clash}
 use Rattle.oa_idl.proofs.FurtherParses.{begins_itself}
 use Rattle.oa_tokens.proofs.OneList.{one_list}
@@ -53,11 +55,19 @@ closed_after text close f =
       is = c.is;
     }
 
-closed_sign : (text : List Word) → (sign [] ▸ nothing) text → Closed text
-closed_sign text f = record { front = []; word = f.first.word; parts = f.parts ∙ ap (λ (ws : List Word). f.front ++ ws) f.second ∙ append-nil f.front ∙ f.first.parts; is = f.first.is }
+closed_sign : (text : List Word) → (symbol [] ▸ nothing) text → Closed text
+closed_sign text f = record {
+  front = [];
+  word = f.first.word;
+  parts = f.parts ∙ ap (λ (ws : List Word). f.front ++ ws) f.second ∙ append-nil f.front
+      ∙ f.first.parts;
+  is = f.first.is;
+}
 
 closed_text : (t : TreeValue) (text : List Word) → library t text → Closed text
-closed_text t text f = closed_after text (λ a g. closed_after a (λ b h. closed_after b (λ c i. closed_after c (λ d j. closed_after d (λ e k. closed_after e (λ m l. closed_sign m l) k) j) i) h) g) f
+closed_text t text f =
+    closed_after text (λ a g. closed_after a
+    (λ b h. closed_after b (λ c i. closed_after c (λ d j. closed_after d (λ e k. closed_after e (λ m l. closed_sign m l) k) j) i) h) g) f
 
 tree_is : (words : List Word) (t : TreeValue) (left : List Word) → Ended words → library_at words ≡ Got t left
     → library t words × ((l : TreeLimit) → KeepsLimit l t)
@@ -97,7 +107,8 @@ limit_is text ts left l are e =
       left = h.named.more;
       parts = h.parts ∙ ap (λ (ws : List Word). h.front ++ ws) h.named.is;
       named = h.named.named;
-      never = λ t other more k f b. h.apart t other [] tt (tree_keeps l t k) f (subst (λ (ws : List Word). BeginsWithWords h.front ws (other ++ [])) (sym h.named.is) (more, append-nil other ∙ b));
+      never = λ t other more k f b. h.apart t other [] tt (tree_keeps l t k) f
+          (subst (λ (ws : List Word). BeginsWithWords h.front ws (other ++ [])) (sym h.named.is) (more, append-nil other ∙ b));
     }
 
 limit_answer : (text : List ℕ) (l : TreeLimit) → BreaksLimit l text → AnswersText text (Err (errors.Limit (limit_of l)))
@@ -109,9 +120,11 @@ limit_answer text limits.Params h = h
 
 answer_is : (text : List ℕ) (ts : List Token) → AreTokens 0 text ts → MayBeText text → (r : Result TreeValue ParseError)
     → IsParsed (length text) (ts ++ end_token (length text) ∷ []) (words_of text ts) r → AnswersText text r
-answer_is text ts are short (Ok t) p = let h = tree_is (words_of text ts) t p.0 (ended text 0 text ts are) p.1 in record { short = short; tokens = ts; are = are; form = h.0; kept = h.1 }
+answer_is text ts are short (Ok t) p = let h = tree_is (words_of text ts) t p.0 (ended text 0 text ts are) p.1 in
+    record { short = short; tokens = ts; are = are; form = h.0; kept = h.1 }
 answer_is text ts are short (Err (errors.Syntax place)) p = (short, syntax_is text ts p.0 place are p.1 p.2)
-answer_is text ts are short (Err (errors.Limit l)) p = subst (λ m. AnswersText text (Err (errors.Limit m))) (sym p.2) (limit_answer text p.1 (short, limit_is text ts p.0 p.1 are p.3))
+answer_is text ts are short (Err (errors.Limit l)) p = subst (λ m. AnswersText text (Err (errors.Limit m))) (sym p.2)
+    (limit_answer text p.1 (short, limit_is text ts p.0 p.1 are p.3))
 answer_is text ts are short (Err errors.Memory) p = short
 
 pub answered : (text bytes : List ℕ) (ts all : List Token) (r : Result TreeValue ParseError) → bytes ≡ text
@@ -126,7 +139,8 @@ answered text bytes ts all r same more are short p =
 pub one_tree : (text : List ℕ) (s t : TreeValue) → IsTree text s → IsTree text t → s ≡ t
 one_tree text s t f g =
     let same = one_list 0 text f.tokens g.tokens f.are g.are in
-    ((library_parses {n = 0}).same s t (words_of text f.tokens) (words_of text g.tokens) [] [] tt tt f.form g.form (ap (λ (us : List Token). words_of text us ++ []) same)).0
+    ((library_parses {n = 0}).same s t (words_of text f.tokens) (words_of text g.tokens) [] [] tt tt f.form g.form
+    (ap (λ (us : List Token). words_of text us ++ []) same)).0
 
 -- a text that has a tree is not refused
 refuted : (text : List ℕ) (place : ℕ) (t : TreeValue) → IsTree text t → Refused AnyTree text place → ⊥

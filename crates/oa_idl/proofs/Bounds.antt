@@ -4,22 +4,23 @@ use Rattle.std.proofs.Common.{leb-false}
 use Rattle.std.specs.Prelude.{nat_lt, nat_le, if◌then◌else◌}
 use Rattle.std.specs.List.{AllByRecursion}
 use Rattle.std.proofs.Math.Logic.{⊎_elim}
-use Rattle.oa_model.specs.Limits.{max_coclasses, max_interfaces, max_members, max_name_characters, max_parameters}
+use Rattle.oa_model.specs.promise.Limits.{max_coclasses, max_interfaces, max_members, max_name_characters}
+use Rattle.oa_model.specs.promise.Limits.{max_parameters}
 use Rattle.oa_idl.specs.declared.stop.TreeLimit.{TreeLimit}
 use Rattle.oa_idl.specs.declared.stop.TreeLimit.TheVariants as limits
 use Rattle.oa_idl.specs.declared.parts.Property.{Property}
 use Rattle.oa_idl.specs.declared.parts.Entry.{Entry}
 use Rattle.oa_idl.specs.declared.parts.Parameter.{Parameter}
-use Rattle.oa_idl.specs.MethodValues.{MethodValue}
+use Rattle.oa_idl.specs.promise.MethodValues.{MethodValue}
 use Rattle.oa_idl.specs.declared.items.Item.{Item}
 use Rattle.oa_idl.specs.declared.items.Item.TheVariants as items
 use Rattle.oa_idl.specs.declared.seen.EntriesSeen.{EntriesSeen}
 use Rattle.oa_idl.specs.declared.seen.ItemsSeen.{ItemsSeen}
-use Rattle.oa_idl.specs.Trees.{TreeValue}
+use Rattle.oa_idl.specs.promise.Trees.{TreeValue}
 use Rattle.oa_idl.specs.Words.{over, too_long}
-use Rattle.oa_idl.specs.Grammar.{one_more, no_entry, entry_grow, no_items, items_grow}
-use Rattle.oa_idl.specs.Limits.{IsShort, HasShortParameters, HasShortNames, one_interface, one_coclass, how_many, HasFewMembers}
-use Rattle.oa_idl.specs.Limits.{HasFewParameters, KeepsLimit}
+use Rattle.oa_idl.specs.promise.Grammar.{one_more, no_entry, entry_grow, no_items, items_grow}
+use Rattle.oa_idl.specs.promise.Limits.{IsShort, HasShortParameters, HasShortNames, one_interface, one_coclass}
+use Rattle.oa_idl.specs.promise.Limits.{how_many, HasFewMembers, HasFewParameters, KeepsLimit}
 use Rattle.oa_idl.proofs.Lists.{KeepsFrom}
 use Rattle.oa_idl.proofs.NameLimits.{over_is}
 use Rattle.oa_idl.proofs.ParameterTexts.{ParameterKeeps, ParameterKept, NoEndLimit}
@@ -54,7 +55,11 @@ parameters_keep : (l : TreeLimit) (n : ℕ) (ps : List Parameter) → (l ≡ lim
     → (l ≡ limits.Params → n + length ps ≤ max_parameters)
     → KeepsFrom {B = Unit {0}} one_more (λ n p. ParameterKeeps n l p) NoEndLimit n ps tt
 parameters_keep l n [] short few = tt
-parameters_keep l n (p ∷ ps) short few = (not_over limits.Params l max_parameters n p.name (λ e. (short e).0) (λ e. omega (arith, few e)), parameters_keep l (n + 1) ps (λ e. (short e).1) (λ e. omega (arith, few e)))
+parameters_keep l n (p ∷ ps) short few = (
+  not_over limits.Params l max_parameters n p.name (λ e. (short e).0) (λ e. omega (arith, few e)),
+  parameters_keep l (n + 1) ps (λ e. (short e).1)
+      (λ e. omega (arith, few e)),
+)
 
 methods_keep : (l : TreeLimit) (n : ℕ) (ms : List MethodValue) → (l ≡ limits.Name → AllByRecursion HasShortParameters ms)
     → (l ≡ limits.Members → n + length ms ≤ max_members)
@@ -62,7 +67,11 @@ methods_keep : (l : TreeLimit) (n : ℕ) (ms : List MethodValue) → (l ≡ limi
     → MethodsKeep n l ms
 methods_keep l n [] short few small = tt
 methods_keep l n (m ∷ ms) short few small = (
-  (not_over limits.Members l max_members n m.name (λ e. (short e).0.0) (λ e. omega (arith, few e)), parameters_keep l 0 m.parameters (λ e. (short e).0.1) (λ e. omega (arith, (small e).0))),
+  (
+    not_over limits.Members l max_members n m.name (λ e. (short e).0.0) (λ e. omega (arith, few e)),
+    parameters_keep l 0 m.parameters (λ e. (short e).0.1)
+        (λ e. omega (arith, (small e).0)),
+  ),
   methods_keep l (n + 1) ms (λ e. (short e).1) (λ e. omega (arith, few e)) (λ e. (small e).1),
 )
 
@@ -72,7 +81,11 @@ members_keep : (l : TreeLimit) (n : ℕ) (ps : List Property) (ms : List MethodV
     → (l ≡ limits.Params → AllByRecursion (λ (m : MethodValue). length m.parameters ≤ max_parameters) ms)
     → KeepsFrom one_more (λ n p. MemberKeeps n l p) (λ n ms. MethodsKeep n l ms) n ps ms
 members_keep l n [] ms short inner few small = methods_keep l n ms inner (λ e. omega (arith, few e)) small
-members_keep l n (p ∷ ps) ms short inner few small = (not_over limits.Members l max_members n p.name (λ e. (short e).0) (λ e. omega (arith, few e)), members_keep l (n + 1) ps ms (λ e. (short e).1) inner (λ e. omega (arith, few e)) small)
+members_keep l n (p ∷ ps) ms short inner few small = (
+  not_over limits.Members l max_members n p.name (λ e. (short e).0) (λ e. omega (arith, few e)),
+  members_keep l (n + 1) ps ms (λ e. (short e).1) inner
+      (λ e. omega (arith, few e)) small,
+)
 
 short_entry : (l : TreeLimit) (name : List ℕ) → (l ≡ limits.Name → length name ≤ max_name_characters) → too_long name ≡ Some l → ⊥
 short_entry l name short e = not_over limits.Name l 1 0 name short (λ _. omega arith) e
@@ -94,19 +107,45 @@ items_keep l s (items.Interface d ∷ xs) short few1 few2 few3 few4 = (
     not_over limits.Interfaces l max_interfaces s.interfaces d.name (λ e. (short e).0.0) (λ e. omega (arith, few1 e)),
     members_keep l 0 d.properties d.methods (λ e. (short e).0.1) (λ e. (short e).0.2) (λ e. omega (arith, (few3 e).0)) (λ e. (few4 e).0),
   ),
-  items_keep l (items_grow s (items.Interface d)) xs (λ e. (short e).1) (λ e. omega (arith, few1 e)) (λ e. omega (arith, few2 e)) (λ e. (few3 e).1) (λ e. (few4 e).1),
+  items_keep l (items_grow s (items.Interface d)) xs (λ e. (short e).1) (λ e. omega (arith, few1 e)) (λ e. omega (arith, few2 e)) (λ e. (few3 e).1)
+      (λ e. (few4 e).1),
 )
 items_keep l s (items.Coclass c ∷ xs) short few1 few2 few3 few4 = (
-  (not_over limits.Coclasses l max_coclasses s.coclasses c.name (λ e. (short e).0.0) (λ e. omega (arith, few2 e)), entries_keep l no_entry c.entries (λ e. (short e).0.1)),
-  items_keep l (items_grow s (items.Coclass c)) xs (λ e. (short e).1) (λ e. omega (arith, few1 e)) (λ e. omega (arith, few2 e)) (λ e. (few3 e).1) (λ e. (few4 e).1),
+  (
+    not_over limits.Coclasses l max_coclasses s.coclasses c.name (λ e. (short e).0.0) (λ e. omega (arith, few2 e)),
+    entries_keep l no_entry c.entries
+        (λ e. (short e).0.1),
+  ),
+  items_keep l (items_grow s (items.Coclass c)) xs (λ e. (short e).1) (λ e. omega (arith, few1 e)) (λ e. omega (arith, few2 e)) (λ e. (few3 e).1)
+      (λ e. (few4 e).1),
 )
 
 pub tree_keeps : (l : TreeLimit) (t : TreeValue) → KeepsLimit l t → TreeKeeps l t
-tree_keeps limits.Name t k = (short_entry limits.Name t.name (λ _. k.0), items_keep limits.Name no_items t.items (λ _. k.1) (λ e. absurd cc) (λ e. absurd cc) (λ e. absurd cc) (λ e. absurd cc))
-tree_keeps limits.Interfaces t k = (short_entry limits.Interfaces t.name (λ e. absurd cc), items_keep limits.Interfaces no_items t.items (λ e. absurd cc) (λ _. omega (arith, k)) (λ e. absurd cc) (λ e. absurd cc) (λ e. absurd cc))
-tree_keeps limits.Coclasses t k = (short_entry limits.Coclasses t.name (λ e. absurd cc), items_keep limits.Coclasses no_items t.items (λ e. absurd cc) (λ e. absurd cc) (λ _. omega (arith, k)) (λ e. absurd cc) (λ e. absurd cc))
-tree_keeps limits.Members t k = (short_entry limits.Members t.name (λ e. absurd cc), items_keep limits.Members no_items t.items (λ e. absurd cc) (λ e. absurd cc) (λ e. absurd cc) (λ _. k) (λ e. absurd cc))
-tree_keeps limits.Params t k = (short_entry limits.Params t.name (λ e. absurd cc), items_keep limits.Params no_items t.items (λ e. absurd cc) (λ e. absurd cc) (λ e. absurd cc) (λ e. absurd cc) (λ _. k))
+tree_keeps limits.Name t k = (
+  short_entry limits.Name t.name (λ _. k.0),
+  items_keep limits.Name no_items t.items (λ _. k.1) (λ e. absurd cc) (λ e. absurd cc) (λ e. absurd cc)
+      (λ e. absurd cc),
+)
+tree_keeps limits.Interfaces t k = (
+  short_entry limits.Interfaces t.name (λ e. absurd cc),
+  items_keep limits.Interfaces no_items t.items (λ e. absurd cc) (λ _. omega (arith, k))
+      (λ e. absurd cc) (λ e. absurd cc) (λ e. absurd cc),
+)
+tree_keeps limits.Coclasses t k = (
+  short_entry limits.Coclasses t.name (λ e. absurd cc),
+  items_keep limits.Coclasses no_items t.items (λ e. absurd cc) (λ e. absurd cc)
+      (λ _. omega (arith, k)) (λ e. absurd cc) (λ e. absurd cc),
+)
+tree_keeps limits.Members t k = (
+  short_entry limits.Members t.name (λ e. absurd cc),
+  items_keep limits.Members no_items t.items (λ e. absurd cc) (λ e. absurd cc) (λ e. absurd cc) (λ _. k)
+      (λ e. absurd cc),
+)
+tree_keeps limits.Params t k = (
+  short_entry limits.Params t.name (λ e. absurd cc),
+  items_keep limits.Params no_items t.items (λ e. absurd cc) (λ e. absurd cc) (λ e. absurd cc)
+      (λ e. absurd cc) (λ _. k),
+)
 
 -- ---- A limit that is kept step by step is kept by the tree.
 

@@ -5,15 +5,15 @@ use Rattle.std.proofs.Math.Logic.{⊎_elim, inl, inr}
 use Rattle.oa_idl.specs.declared.stop.TreeLimit.{TreeLimit}
 use Rattle.oa_idl.specs.declared.stop.Stop.{Stop}
 use Rattle.oa_idl.specs.declared.stop.Stop.TheVariants.{Syntax}
-use Rattle.oa_idl.specs.Forms.{Word, Then, ◌▸◌, given, this, optional}
-use Rattle.oa_idl.specs.Reading.{Reading, and_then, bind, give, heads, done, choose, later_words, this_at}
+use Rattle.oa_idl.specs.promise.Forms.{Word, Then, ◌▸◌, given, this, optional}
+use Rattle.oa_idl.specs.Reading.{Parser, and_then, bind, give, heads, done, choose, later_words, this_at}
 use Rattle.oa_idl.specs.Reading.{perhaps_at}
 use Rattle.oa_idl.specs.Reading.ReadStep.{Got, Stuck}
 use Rattle.oa_idl.proofs.Parses.{Parses, Stops, Takes, begins_heads, got, got_is, stuck_at, test_cases}
 use Rattle.oa_idl.proofs.PartParses.{skip_parses}
 
 -- A parser of a part of a form accepts only sequences of the form.
-part_takes : {n : ℕ} {C : Type 0} {R : C → Type 0} {F A : C → List Word → Type 0} {K : TreeLimit → C → Type 0} {Q : C → Type 0} {read : Reading C}
+part_takes : {n : ℕ} {C : Type 0} {R : C → Type 0} {F A : C → List Word → Type 0} {K : TreeLimit → C → Type 0} {Q : C → Type 0} {read : Parser C}
     → Parses n R A K Q read → ((c : C) (text : List Word) → R c → A c text → F c text)
     → (words : List Word) (x : C) (left : List Word) → length words ≤ n → read words ≡ Got x left → (R x × Q x) × Takes (F x) words left
 part_takes r from words x left le e =
@@ -21,7 +21,7 @@ part_takes r from words x left le e =
     (h.0, record { text = h.1.text; parts = h.1.parts; form = from x h.1.text h.0.0 h.1.form })
 
 -- It stops where the form does, if each sequence that begins with these words is of the part.
-part_stops : {n : ℕ} {C : Type 0} {R : C → Type 0} {F A : C → List Word → Type 0} {K : TreeLimit → C → Type 0} {Q : C → Type 0} {read : Reading C}
+part_stops : {n : ℕ} {C : Type 0} {R : C → Type 0} {F A : C → List Word → Type 0} {K : TreeLimit → C → Type 0} {Q : C → Type 0} {read : Parser C}
     → Parses n R A K Q read → (test : Word → Bool) (words : List Word)
     → ((c : C) (text more : List Word) → R c → F c text → heads test (text ++ more) ≡ heads test words → A c text)
     → (why : Stop) (left : List Word) → length words ≤ n → read words ≡ Stuck why left → Stops R F K words why left
@@ -38,7 +38,7 @@ part_stops r test words into why left le e =
 
 -- A is the part of F that begins with a word that passes the test, B the part that begins with another
 pub choose_parses : {n : ℕ} {C : Type 0} {R : C → Type 0} {F A B : C → List Word → Type 0} {K : TreeLimit → C → Type 0} {Q : C
-    → Type 0} {first other : Reading C} (test : Word → Bool)
+    → Type 0} {first other : Parser C} (test : Word → Bool)
     → ((c : C) (text more : List Word) → R c → F c text → heads test (text ++ more) ≡ true → A c text)
     → ((c : C) (text more : List Word) → R c → F c text → heads test (text ++ more) ≡ false → B c text)
     → ((c : C) (text : List Word) → R c → A c text → F c text) → ((c : C) (text : List Word) → R c → B c text → F c text)
@@ -84,16 +84,18 @@ this_heads test text more f = ap (λ (ws : List Word). heads test (ws ++ more)) 
 
 pub then_heads : {F G : List Word → Type 0} (test : Word → Bool) (v : Bool) (text more : List Word)
     → ((a left : List Word) → F a → heads test (a ++ left) ≡ v) → Then F G text → heads test (text ++ more) ≡ v
-then_heads test v text more begins f = ap (λ (ws : List Word). heads test (ws ++ more)) f.parts ∙ ap (heads test) (append_assoc f.front f.back more) ∙ begins f.front (f.back ++ more) f.first
+then_heads test v text more begins f = ap (λ (ws : List Word). heads test (ws ++ more)) f.parts ∙ ap (heads test) (append_assoc f.front f.back more)
+    ∙ begins f.front (f.back ++ more) f.first
 
 -- An optional word, before words that never begin with it.
 pub perhaps_parses : {n : ℕ} {C : Type 0} {R : C → Type 0} {G : C → List Word → Type 0} {L : TreeLimit → C → Type 0} {Q : C
-    → Type 0} {read : Reading C} (test : Word → Bool)
+    → Type 0} {read : Parser C} (test : Word → Bool)
     → ((c : C) (text more : List Word) → R c → G c text → heads test (text ++ more) ≡ false)
     → Parses n R G L Q read → Parses n R (λ c. optional (this test) ▸ G c) L Q (bind (perhaps_at test) (λ _. read))
 unfolding bind choose this_at perhaps_at
 perhaps_parses {n} {C} {R} {G} {L} {Q} {read} test free r =
-    let p : Parses n R (λ c. optional (this test) ▸ G c) L Q (choose test (bind (this_at test) (λ _. read)) read) = choose_parses {A = λ c. this test ▸ G c} {B = G} test yes no from_yes from_no (skip_parses test r) r in
+    let p : Parses n R (λ c. optional (this test) ▸ G c) L Q (choose test (bind (this_at test) (λ _. read)) read) =
+    choose_parses {A = λ c. this test ▸ G c} {B = G} test yes no from_yes from_no (skip_parses test r) r in
     record {
       same = p.same;
       takes = λ words x left le e. p.takes words x left le (alike words (heads test words) refl ∙ e);
@@ -110,12 +112,14 @@ perhaps_parses {n} {C} {R} {G} {L} {Q} {read} test free r =
         → (this test ▸ G c) text
     yes c text more h f is = ⊎_elim
         (λ (k : this test f.front). record { front = f.front; back = f.back; parts = f.parts; first = k; second = f.second })
-        (λ (k : f.front ≡ []). absurd (clash is (ap (λ (ws : List Word). heads test (ws ++ more)) (f.parts ∙ ap (λ (ws : List Word). ws ++ f.back) k) ∙ free c f.back more h f.second)))
+        (λ (k : f.front ≡ []). absurd (clash is (ap (λ (ws : List Word). heads test (ws ++ more)) (f.parts ∙ ap (λ (ws : List Word). ws ++ f.back) k)
+        ∙ free c f.back more h f.second)))
         f.first
 
     no : (c : C) (text more : List Word) → R c → (optional (this test) ▸ G c) text → heads test (text ++ more) ≡ false → G c text
     no c text more h f is = ⊎_elim
-        (λ (k : this test f.front). absurd (clash (ap (λ (ws : List Word). heads test (ws ++ more)) f.parts ∙ ap (heads test) (append_assoc f.front f.back more) ∙ this_heads test f.front (f.back ++ more) k) is))
+        (λ (k : this test f.front). absurd (clash (ap (λ (ws : List Word). heads test (ws ++ more)) f.parts ∙ ap (heads test) (append_assoc f.front f.back more)
+        ∙ this_heads test f.front (f.back ++ more) k) is))
         (λ (k : f.front ≡ []). subst (G c) (sym (f.parts ∙ ap (λ (ws : List Word). ws ++ f.back) k)) f.second)
         f.first
 

@@ -2,7 +2,7 @@
 use Rattle.std.proofs.Common.{◌≡◌, ℕ, ◌+◌, ◌*◌, ◌^◌, ◌<◌, ◌≤◌, List, [], ◌∷◌, length, drop, get_or, Some, None, refl, sym, subst, ◌∙◌}
 use Rattle.std.proofs.Common.{arith, rules}
 use Rattle.std.proofs.lemmas.List.{drop_more, drop_all}
-use Rattle.oa_idl.specs.Words.{number_from, digit_of, below}
+use Rattle.oa_idl.specs.promise.Words.{number_from, digit_of, below}
 
 pub digits_go_on : (base value n : ℕ) (bs : List ℕ) (total : ℕ) → n < length bs → number_from base value (drop n bs) ≡ total
     → number_from base (base * value + digit_of (get_or bs n 0)) (drop (n + 1) bs) ≡ total

@@ -11,11 +11,11 @@ use Rattle.oa_tokens.specs.declared.lexer.Piece.{Piece}
 use Rattle.oa_tokens.specs.declared.lexer.Piece.TheVariants.{Word, Gap, Broken}
 use Rattle.oa_tokens.specs.declared.scan.Class.TheVariants as classes
 use Rattle.oa_tokens.specs.declared.scan.Close.TheVariants.{Quote, Comment}
-use Rattle.oa_tokens.specs.Bytes.{is_in, run, end_from, is_guid}
-use Rattle.oa_tokens.specs.Tokens.{front, closed, token, AreTokens}
-use Rattle.oa_tokens.specs.Tokens.AreTokens.{End, Apart, Next, Rest}
-use Rattle.oa_idl.specs.Forms as forms
-use Rattle.oa_idl.specs.Words.{same_kind, passes, word_of, end_word, words_of}
+use Rattle.oa_tokens.specs.promise.Bytes.{is_in, run, end_from, is_guid}
+use Rattle.oa_tokens.specs.promise.Tokens.{front, closed, token, AreTokens}
+use Rattle.oa_tokens.specs.promise.Tokens.AreTokens.{End, Apart, Next, Rest}
+use Rattle.oa_idl.specs.promise.Forms as forms
+use Rattle.oa_idl.specs.promise.Words.{same_kind, passes, word_of, end_word, words_of}
 use Rattle.oa_idl.specs.IsTree.{token_place, place_after}
 
 -- the last word is the end, and no other
@@ -45,8 +45,13 @@ gap_closed (Some n) = tt
 
 front_no_end : (bs : List ℕ) → NoEnd (front bs)
 unfolding front
-front_no_end bs = pick (is_guid bs) _ _ refl (pick (is_in classes.Letter (get_or bs 0 0)) _ _ refl (pick (get_or bs 0 0 == 48 && get_or bs 1 0 == 120) _ _ (pick (run (is_in classes.Hexadecimal) (drop 2 bs) == 0) _ _ refl refl) (pick (is_in classes.Digit (get_or bs 0 0)) _ _ refl
-    (pick (get_or bs 0 0 == 34) _ _ (text_closed (end_from Quote false (drop 1 bs))) (pick (is_in classes.Mark (get_or bs 0 0)) _ _ refl (pick (is_in classes.Blank (get_or bs 0 0)) _ _ tt (pick (get_or bs 0 0 == 47 && get_or bs 1 0 == 47) _ _ tt
+front_no_end bs =
+    pick (is_guid bs) _ _ refl (pick (is_in classes.Letter (get_or bs 0 0)) _ _ refl
+    (pick (get_or bs 0 0 == 48 && get_or bs 1 0 == 120) _ _ (pick (run (is_in classes.Hexadecimal) (drop 2 bs) == 0) _ _ refl refl)
+    (pick (is_in classes.Digit (get_or bs 0 0)) _ _ refl
+    (pick (get_or bs 0 0 == 34) _ _ (text_closed (end_from Quote false (drop 1 bs)))
+    (pick (is_in classes.Mark (get_or bs 0 0)) _ _ refl
+    (pick (is_in classes.Blank (get_or bs 0 0)) _ _ tt (pick (get_or bs 0 0 == 47 && get_or bs 1 0 == 47) _ _ tt
     (pick (get_or bs 0 0 == 47 && get_or bs 1 0 == 42) _ _ (gap_closed (end_from Comment false (drop 2 bs))) tt))))))))
 
 word_no_end : (bs : List ℕ) (kind : TokenKind) (n : ℕ) → front bs ≡ Word kind n → same_kind kind kinds.End ≡ false
@@ -67,8 +72,10 @@ ended_cons w (v ∷ words) is h = (is, h)
 pub ended : (text : List ℕ) (p : ℕ) (bs : List ℕ) (ts : List Token) → AreTokens p bs ts → Ended (words_of text ts)
 ended text _ _ _ (End p) = end_passes
 ended text _ _ _ (Apart p n bs ts lt is h) = ended text (p + n) (drop n bs) ts h
-ended text _ _ _ (Next p n kind bs ts lt is h) = ended_cons (word_of text (token kind p (p + n))) (words_of text ts) (no_end_passes text (token kind p (p + n)) (word_no_end bs kind n is)) (ended text (p + n) (drop n bs) ts h)
-ended text _ _ _ (Rest p bs lt is) = ended_cons (word_of text (token kinds.Junk p (p + length bs))) (end_word ∷ []) (no_end_passes text (token kinds.Junk p (p + length bs)) refl) end_passes
+ended text _ _ _ (Next p n kind bs ts lt is h) = ended_cons (word_of text (token kind p (p + n))) (words_of text ts)
+    (no_end_passes text (token kind p (p + n)) (word_no_end bs kind n is)) (ended text (p + n) (drop n bs) ts h)
+ended text _ _ _ (Rest p bs lt is) = ended_cons (word_of text (token kinds.Junk p (p + length bs))) (end_word ∷ [])
+    (no_end_passes text (token kinds.Junk p (p + length bs)) refl) end_passes
 
 -- ---- the end as a token
 

@@ -6,8 +6,9 @@ use Rattle.oa_idl.specs.declared.stop.TreeLimit.{TreeLimit}
 use Rattle.oa_idl.specs.declared.stop.Stop.{Stop}
 use Rattle.oa_idl.specs.declared.stop.Stop.TheVariants.{Syntax, Memory}
 use Rattle.oa_idl.specs.declared.stop.Stop.TheVariants as stops
-use Rattle.oa_idl.specs.Forms.{Word, Then, ◌▸◌, nothing, given, this, one, BeginsWithWords}
-use Rattle.oa_idl.specs.Reading.{Reading, bind, give, this_at}
+use Rattle.oa_idl.specs.promise.Forms.{Word, Then, ◌▸◌, nothing, given, this, one}
+use Rattle.oa_idl.specs.Forms.{BeginsWithWords}
+use Rattle.oa_idl.specs.Reading.{Parser, bind, give, this_at}
 use Rattle.oa_idl.specs.Reading.{one_at, require, demand}
 use Rattle.oa_idl.specs.Words.{never_over}
 use Rattle.oa_idl.specs.Reading.ReadStep.{Stuck}
@@ -17,7 +18,7 @@ use Rattle.oa_idl.proofs.ChoiceParses.{clash}
 
 -- A parser with the same results.
 pub alike_parses : {n : ℕ} {C : Type 0} {R : C → Type 0} {F : C → List Word → Type 0} {K : TreeLimit → C → Type 0} {Q : C
-    → Type 0} {f g : Reading C} → ((words : List Word) → f words ≡ g words) → Parses n R F K Q f → Parses n R F K Q g
+    → Type 0} {f g : Parser C} → ((words : List Word) → f words ≡ g words) → Parses n R F K Q f → Parses n R F K Q g
 alike_parses alike r = record {
   same = r.same;
   takes = λ words x left le e. r.takes words x left le (alike words ∙ e);
@@ -26,13 +27,20 @@ alike_parses alike r = record {
 
 -- Only if a test holds.
 pub require_parses : {n : ℕ} {C : Type 0} {R : C → Type 0} {F : C → List Word → Type 0} {K : TreeLimit → C → Type 0} {Q : C
-    → Type 0} {read : Reading C} (b : Bool) → Parses n R F K Q read → Parses n R (λ c ws. (b ≡ true) × F c ws) K Q (require b read)
+    → Type 0} {read : Parser C} (b : Bool) → Parses n R F K Q read → Parses n R (λ c ws. (b ≡ true) × F c ws) K Q (require b read)
 unfolding require
 require_parses true r = fact_parses (said_parses (λ c h. (h, refl)) (λ c h. h.0) (λ c text h f. f) (λ c text h f. f) (λ c h. h) r)
 require_parses {n} {C} {R} {F} {K} {Q} false r = record {
   same = λ x y a b s t hx hy f g e. absurd (clash f.0 refl);
   takes = λ words x left le e. absurd cc;
-  stuck = λ words why left le e. record { front = []; parts = stop_left words why left e; named = syntax_stops words why left e; apart = λ c text more h k f b. clash f.0 refl };
+  stuck =
+      λ words why left le e. record {
+        front = [];
+        parts = stop_left words why left e;
+        named = syntax_stops words why left e;
+        apart = λ c text more h k f b.
+            clash f.0 refl;
+      };
 }
   where
     stop_left : (words : List Word) (why : Stop) (left : List Word) → stuck_at {A = C} Syntax words ≡ Stuck why left → words ≡ left
@@ -65,20 +73,22 @@ add_nothing text f = record { front = text; back = []; parts = sym (append-nil t
 -- a last word that says nothing, and the one value that is meant
 pub end_parses : {n : ℕ} {C : Type 0} {R : C → Type 0} {L : TreeLimit → C → Type 0} {Q : C → Type 0} (test : Word → Bool) (v : C) → R v
     → Q v → ((c : C) → R c → c ≡ v) → Parses n R (λ _. this test) L Q (bind (this_at test) (λ _. give v))
-end_parses test v hr hq only = said_parses {F = λ _. this test ▸ nothing} (λ c h. h) (λ c h. h) (λ c t h f. less_nothing t f) (λ c t h f. add_nothing t f) (λ c h. h) (skip_parses test (give_parses v hr hq only))
+end_parses test v hr hq only = said_parses {F = λ _. this test ▸ nothing} (λ c h. h) (λ c h. h) (λ c t h f. less_nothing t f) (λ c t h f. add_nothing t f)
+    (λ c h. h) (skip_parses test (give_parses v hr hq only))
 
 -- A last part, which determines the value.
 pub end_part_parses : {n : ℕ} {A C : Type 0} {F : A → List Word → Type 0} {K : TreeLimit → A → Type 0} {P : A → Type 0} {R : C
-    → Type 0} {L : TreeLimit → C → Type 0} {Q : C → Type 0} {read : Reading A}
+    → Type 0} {L : TreeLimit → C → Type 0} {Q : C → Type 0} {read : Parser A}
     (proj : C → A) (v : A → C) → Parses n Always F K P read → ((l : TreeLimit) (c : C) → R c → L l c → K l (proj c))
     → ((a : A) → R (v a) × (proj (v a) ≡ a)) → ((a : A) → P a → Q (v a)) → ((a : A) (c : C) → R c × (proj c ≡ a) → c ≡ v a)
     → Parses n R (λ c. F (proj c)) L Q (bind read (λ a. give (v a)))
-end_part_parses {F = F} proj v r has hr hq only = said_parses {F = λ c. F (proj c) ▸ nothing} (λ c h. h) (λ c h. h) (λ c t h f. less_nothing t f) (λ c t h f. add_nothing t f) (λ c h. h)
+end_part_parses {F = F} proj v r has hr hq only = said_parses {F = λ c. F (proj c) ▸ nothing} (λ c h. h) (λ c h. h) (λ c t h f. less_nothing t f)
+    (λ c t h f. add_nothing t f) (λ c h. h)
     (part_parses {G = λ _. nothing} proj r has (λ a. give_parses (v a) (hr a) (hq a) (only a)))
 
 -- As above, with a stronger limit.
 pub limit_parses : {n : ℕ} {C : Type 0} {R : C → Type 0} {F : C → List Word → Type 0} {K L : TreeLimit → C → Type 0} {Q : C
-    → Type 0} {read : Reading C} → ((l : TreeLimit) (c : C) → L l c → K l c) → Parses n R F K Q read → Parses n R F L Q read
+    → Type 0} {read : Parser C} → ((l : TreeLimit) (c : C) → L l c → K l c) → Parses n R F K Q read → Parses n R F L Q read
 limit_parses {n} {C} {R} {F} {K} {L} {Q} {read} has r = record {
   same = r.same;
   takes = r.takes;
@@ -101,7 +111,9 @@ limit_parses {n} {C} {R} {F} {K} {L} {Q} {read} has r = record {
 -- one word that has a meaning, and no limit
 pub sure_parses : {n : ℕ} {A : Type 0} (meaning : Word → Option A)
     → Parses n Always (one meaning) NoLimit Always (one_at meaning never_over)
-sure_parses meaning = limit_parses (λ l c _ e. absurd cc) (said_parses (λ c h. h) (λ c h. h) (λ c t h f. f) (λ c t h f. f) (λ c h. tt) (one_parses meaning never_over (λ l w x e o. absurd cc)))
+sure_parses meaning =
+    limit_parses (λ l c _ e. absurd cc) (said_parses (λ c h. h) (λ c h. h) (λ c t h f. f) (λ c t h f. f) (λ c h. tt)
+    (one_parses meaning never_over (λ l w x e o. absurd cc)))
 
 -- A last word without a value, if the list has a value.
 pub demand_parses : {n : ℕ} {B : Type 0} (test : Word → Bool) (o : Option B)
@@ -110,12 +122,20 @@ unfolding demand
 demand_parses {n} {B} test None = record {
   same = λ x y a b s t _ _ f g e. let z = f.0 in absurd cc;
   takes = λ words x left le e. absurd cc;
-  stuck = λ words why left le e. record { front = []; parts = stop_left words why left e; named = syntax_stops words why left e; apart = λ c text more h k f b. let z = f.0 in absurd cc };
+  stuck =
+      λ words why left le e. record {
+        front = [];
+        parts = stop_left words why left e;
+        named = syntax_stops words why left e;
+        apart = λ c text more h k f b.
+            let z = f.0 in absurd cc;
+      };
 }
   where
     stop_left : (words : List Word) (why : Stop) (left : List Word) → stuck_at {A = B} Syntax words ≡ Stuck why left → words ≡ left
     stop_left words why left e = cc
-demand_parses {n} {B} test (Some v) = said_parses {F = λ b ws. (b ≡ v) × this test ws} (λ c h. h) (λ c h. h) (λ c t h f. (ap some (sym f.0), f.1)) (λ c t h f. (is c f.0, f.1)) (λ c h. h)
+demand_parses {n} {B} test (Some v) = said_parses {F = λ b ws. (b ≡ v) × this test ws} (λ c h. h) (λ c h. h) (λ c t h f. (ap some (sym f.0), f.1))
+    (λ c t h f. (is c f.0, f.1)) (λ c h. h)
     (fact_parses (end_parses test v (tt, refl) tt (λ c h. h.1)))
   where
     is : (c : B) → some v ≡ Some c → c ≡ v

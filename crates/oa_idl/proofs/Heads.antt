@@ -9,10 +9,11 @@ use Rattle.std.proofs.lemmas.List.{length-append}
 use Rattle.oa_model.specs.declared.var_type.VarType.{VarType}
 use Rattle.oa_tokens.specs.declared.lexer.TokenKind.{TokenKind}
 use Rattle.oa_tokens.specs.declared.lexer.TokenKind.TheVariants as kinds
-use Rattle.oa_idl.specs.Forms.{Word, Then, this, one}
-use Rattle.oa_idl.specs.Words.{same_kind, kind_of, passes, is_text, id_of, word_type, plain_type, if_cell, amount_of, characters_of}
+use Rattle.oa_idl.specs.promise.Forms.{Word, Then, this, one}
+use Rattle.oa_idl.specs.promise.Words.{same_kind, kind_of, passes, is_text, id_of, word_type, plain_type, if_cell}
+use Rattle.oa_idl.specs.promise.Words.{amount_of, characters_of}
 use Rattle.oa_idl.specs.Reading.{heads}
-use Rattle.oa_idl.specs.Grammar.{sign}
+use Rattle.oa_idl.specs.promise.Grammar.{symbol}
 use Rattle.oa_idl.proofs.Parses.{test_cases}
 use Rattle.oa_idl.proofs.ChoiceParses.{clash, then_heads, this_heads}
 
@@ -27,14 +28,14 @@ differ a b w p q =
 pub other_sign : (a b : List ℕ) → bytes_eq b a ≡ false → (w : Word) → passes b w ≡ true → passes a w ≡ false
 other_sign a b ne w q = ⊎_elim (λ (p : passes a w ≡ true). absurd (clash (differ a b w p q) ne)) (λ (p : passes a w ≡ false). p) (test_cases (passes a w))
 
-pub one_sign_heads : (a b : List ℕ) → bytes_eq b a ≡ false → (text more : List Word) → sign b text → heads (passes a) (text ++ more) ≡ false
+pub one_sign_heads : (a b : List ℕ) → bytes_eq b a ≡ false → (text more : List Word) → symbol b text → heads (passes a) (text ++ more) ≡ false
 one_sign_heads a b ne text more f = ap (λ (ws : List Word). heads (passes a) (ws ++ more)) f.parts ∙ other_sign a b ne f.word f.is
 
-pub sign_heads : {G : List Word → Type 0} (a b : List ℕ) → bytes_eq b a ≡ false → (text more : List Word) → Then (sign b) G text
+pub sign_heads : {G : List Word → Type 0} (a b : List ℕ) → bytes_eq b a ≡ false → (text more : List Word) → Then (symbol b) G text
     → heads (passes a) (text ++ more) ≡ false
 sign_heads a b ne text more f = then_heads (passes a) false text more (λ front left h. one_sign_heads a b ne front left h) f
 
-pub same_heads : {G : List Word → Type 0} (a : List ℕ) (text more : List Word) → Then (sign a) G text
+pub same_heads : {G : List Word → Type 0} (a : List ℕ) (text more : List Word) → Then (symbol a) G text
     → heads (passes a) (text ++ more) ≡ true
 same_heads a text more f = then_heads (passes a) true text more (λ front left h. this_heads (passes a) front left h) f
 

@@ -6,8 +6,9 @@ use Rattle.std.proofs.Math.Logic.{⊎_elim}
 use Rattle.oa_idl.specs.declared.stop.TreeLimit.{TreeLimit}
 use Rattle.oa_idl.specs.declared.stop.Stop.{Stop}
 use Rattle.oa_idl.specs.declared.stop.Stop.TheVariants.{Syntax}
-use Rattle.oa_idl.specs.Forms.{Word, ◌▸◌, given, this, optional, with, listed, gathered, nowhere, BeginsWithWords}
-use Rattle.oa_idl.specs.Reading.{ReadStep, Reading, and_then, bind, give, fail, heads, done, choose, later_words, perhaps_at, until, list_at}
+use Rattle.oa_idl.specs.promise.Forms.{Word, ◌▸◌, given, this, optional, with, listed, gathered, nowhere}
+use Rattle.oa_idl.specs.Forms.{BeginsWithWords}
+use Rattle.oa_idl.specs.Reading.{ReadStep, Parser, and_then, bind, give, fail, heads, done, choose, later_words, perhaps_at, until, list_at}
 use Rattle.oa_idl.specs.Reading.{gather, gather_at}
 use Rattle.oa_idl.specs.Reading.ReadStep.{Got, Stuck}
 use Rattle.oa_idl.proofs.Parses.{Parses, Always, NoLimit, stuck_at, syntax_stops}
@@ -62,33 +63,43 @@ module _ {S A B : Type 0} {F : S → A → List Word → Type 0} {K : S → Tree
         → a ++ s ≡ b ++ t → X
     after_same {G} {H} {X} y a b s t free_g free_h both f g e = ⊎_elim
         (λ (k : this (apart y) f.front). ⊎_elim
-        (λ (j : this (apart y) g.front). both f.back g.back f.second g.second ((this_parses {n = 0} (apart y)).same done done f.front g.front (f.back ++ s) (g.back ++ t) tt tt k j whole).1)
-        (λ (j : g.front ≡ []). absurd (clash (ap (heads (apart y)) (sym whole) ∙ this_heads (apart y) f.front (f.back ++ s) k) (ap (λ (ws : List Word). heads (apart y) (ws ++ (g.back ++ t))) j ∙ free_h g.back t g.second)))
+        (λ (j : this (apart y) g.front). both f.back g.back f.second g.second
+        ((this_parses {n = 0} (apart y)).same done done f.front g.front (f.back ++ s) (g.back ++ t) tt tt k j whole).1)
+        (λ (j : g.front ≡ []). absurd (clash (ap (heads (apart y)) (sym whole) ∙ this_heads (apart y) f.front (f.back ++ s) k)
+        (ap (λ (ws : List Word). heads (apart y) (ws ++ (g.back ++ t))) j ∙ free_h g.back t g.second)))
         g.first)
         (λ (k : f.front ≡ []). ⊎_elim
-        (λ (j : this (apart y) g.front). absurd (clash (ap (heads (apart y)) whole ∙ this_heads (apart y) g.front (g.back ++ t) j) (ap (λ (ws : List Word). heads (apart y) (ws ++ (f.back ++ s))) k ∙ free_g f.back s f.second)))
-        (λ (j : g.front ≡ []). both f.back g.back f.second g.second (ap (λ (ws : List Word). ws ++ (f.back ++ s)) (sym k) ∙ whole ∙ ap (λ (ws : List Word). ws ++ (g.back ++ t)) j))
+        (λ (j : this (apart y) g.front). absurd (clash (ap (heads (apart y)) whole ∙ this_heads (apart y) g.front (g.back ++ t) j)
+        (ap (λ (ws : List Word). heads (apart y) (ws ++ (f.back ++ s))) k ∙ free_g f.back s f.second)))
+        (λ (j : g.front ≡ []). both f.back g.back f.second g.second
+        (ap (λ (ws : List Word). ws ++ (f.back ++ s)) (sym k) ∙ whole ∙ ap (λ (ws : List Word). ws ++ (g.back ++ t)) j))
         g.first)
         f.first
       where
         whole : f.front ++ (f.back ++ s) ≡ g.front ++ (g.back ++ t)
-        whole = sym (append_assoc f.front f.back s) ∙ ap (λ (ws : List Word). ws ++ s) (sym f.parts) ∙ e ∙ ap (λ (ws : List Word). ws ++ t) g.parts ∙ append_assoc g.front g.back t
+        whole = sym (append_assoc f.front f.back s) ∙ ap (λ (ws : List Word). ws ++ s) (sym f.parts) ∙ e ∙ ap (λ (ws : List Word). ws ++ t) g.parts
+            ∙ append_assoc g.front g.back t
 
     listed_same : (v : S) (xs ys : List A) (b c : B) (m n s t : List Word) → listed F grow apart E v xs b m
         → listed F grow apart E v ys c n → m ++ s ≡ n ++ t → (xs ≡ ys) × (b ≡ c) × (s ≡ t)
     listed_same v [] [] b c m n s t f g q = let k = (e 0 v).same b c m n s t tt tt f g q in (refl, k.0, k.1)
-    listed_same v [] (y ∷ ys) b c m n s t f g q = absurd (clash (ap (heads test) (sym q) ∙ ends v b m s f) (then_heads test false n t (λ a left h. no_end v y a left h) g))
-    listed_same v (x ∷ xs) [] b c m n s t f g q = absurd (clash (ap (heads test) q ∙ ends v c n t g) (then_heads test false m s (λ a left h. no_end v x a left h) f))
+    listed_same v [] (y ∷ ys) b c m n s t f g q =
+        absurd (clash (ap (heads test) (sym q) ∙ ends v b m s f) (then_heads test false n t (λ a left h. no_end v y a left h) g))
+    listed_same v (x ∷ xs) [] b c m n s t f g q =
+        absurd (clash (ap (heads test) q ∙ ends v c n t g) (then_heads test false m s (λ a left h. no_end v x a left h) f))
     listed_same v (x ∷ xs) (y ∷ ys) b c m n s t f g q =
-        let whole : f.front ++ (f.back ++ s) ≡ g.front ++ (g.back ++ t) = sym (append_assoc f.front f.back s) ∙ ap (λ (ws : List Word). ws ++ s) (sym f.parts) ∙ q ∙ ap (λ (ws : List Word). ws ++ t) g.parts ∙ append_assoc g.front g.back t in
+        let whole : f.front ++ (f.back ++ s) ≡ g.front ++ (g.back ++ t) = sym (append_assoc f.front f.back s) ∙ ap (λ (ws : List Word). ws ++ s) (sym f.parts)
+        ∙ q ∙ ap (λ (ws : List Word). ws ++ t) g.parts ∙ append_assoc g.front g.back t in
         let first = (r 0 v).same x y f.front g.front (f.back ++ s) (g.back ++ t) tt tt f.first g.first whole in
         let second = subst (λ (z : A). (optional (this (apart z)) ▸ listed F grow apart E (grow v z) ys c) g.back) (sym first.0) g.second in
-        let others = after_same x f.back g.back s t (λ text more h. listed_free x (grow v x) xs b text more h) (λ text more h. listed_free x (grow v x) ys c text more h) (λ i j h k q. listed_same (grow v x) xs ys b c i j s t h k q) f.second second first.1 in
+        let others = after_same x f.back g.back s t (λ text more h. listed_free x (grow v x) xs b text more h)
+        (λ text more h. listed_free x (grow v x) ys c text more h) (λ i j h k q. listed_same (grow v x) xs ys b c i j s t h k q) f.second second first.1 in
         ((λ i. first.0 i ∷ others.0 i), others.1, others.2)
 
     -- an item, and then a list
     unfoldable More : S → List A × B → List Word → Type 0
-    More s p = with (F s) (λ x. optional (this (apart x)) ▸ with (λ (q : List A × B). listed F grow apart E (grow s x) q.0 q.1) (λ q. given (p ≡ both (x ∷ q.0) q.1)))
+    More s p =
+        with (F s) (λ x. optional (this (apart x)) ▸ with (λ (q : List A × B). listed F grow apart E (grow s x) q.0 q.1) (λ q. given (p ≡ both (x ∷ q.0) q.1)))
 
     pub until_parses : (n : ℕ) (s : S) → Parses n Always (λ p. listed F grow apart E s p.0 p.1)
         (λ l p. KeepsFrom grow (λ v x. K v l x) (λ v b. L v l b) s p.0 p.1) (λ p. KeepsFrom grow P Q s p.0 p.1)
@@ -114,11 +125,19 @@ module _ {S A B : Type 0} {F : S → A → List Word → Type 0} {K : S → Tree
         left_is : (words : List Word) (why : Stop) (left : List Word) → stuck_at {A = List A × B} Syntax words ≡ Stuck why left
             → words ≡ left
         left_is words why left w = cc
-    until_parses (suc n) s = choose_parses {A = λ p. with (E s) (λ b. given (p ≡ alone b))} {B = More s} test (λ p text more _ f is. yes p.0 p.1 text more f is) (λ p text more _ f is. no p.0 p.1 text more f is) (λ p text _ f. from_yes p text f) (λ p text _ f. from_no p text f)
-        (with_parses {G = λ b p. given (p ≡ alone b)} (e (suc n) s) (enough (E s) (suc n)) (λ l b p text _ g k. subst (λ (q : List A × B). KeepsFrom grow (λ v x. K v l x) (λ v c. L v l c) s q.0 q.1) g.fact k) (λ b. given_parses (alone b) tt (λ known. known)))
-        (with_parses {G = λ x p. optional (this (apart x)) ▸ with (λ (q : List A × B). listed F grow apart E (grow s x) q.0 q.1) (λ q. given (p ≡ both (x ∷ q.0) q.1))} (r (suc n) s) less has
-        (λ x. perhaps_parses (apart x) (λ p text more _ f. then_heads (apart x) false text more (λ a left h. listed_free x (grow s x) f.value.0 f.value.1 a left h) f.form)
-        (with_parses {G = λ q p. given (p ≡ both (x ∷ q.0) q.1)} (until_parses n (grow s x)) (enough (λ (q : List A × B). listed F grow apart E (grow s x) q.0 q.1) n) (λ l q p text _ g k. (subst (λ (z : List A × B). KeepsFrom grow (λ v x. K v l x) (λ v c. L v l c) s z.0 z.1) g.fact k).1)
+    until_parses (suc n) s = choose_parses {A = λ p. with (E s) (λ b. given (p ≡ alone b))} {B = More s} test (λ p text more _ f is. yes p.0 p.1 text more f is)
+        (λ p text more _ f is. no p.0 p.1 text more f is) (λ p text _ f. from_yes p text f) (λ p text _ f. from_no p text f)
+        (with_parses {G = λ b p. given (p ≡ alone b)} (e (suc n) s) (enough (E s) (suc n))
+        (λ l b p text _ g k. subst (λ (q : List A × B). KeepsFrom grow (λ v x. K v l x) (λ v c. L v l c) s q.0 q.1) g.fact k)
+        (λ b. given_parses (alone b) tt (λ known. known)))
+        (with_parses
+        {G = λ x p. optional (this (apart x)) ▸ with (λ (q : List A × B). listed F grow apart E (grow s x) q.0 q.1) (λ q. given (p ≡ both (x ∷ q.0) q.1))}
+        (r (suc n) s) less has
+        (λ x. perhaps_parses (apart x) (λ p text more _ f. then_heads (apart x) false text more
+        (λ a left h. listed_free x (grow s x) f.value.0 f.value.1 a left h) f.form)
+        (with_parses {G = λ q p. given (p ≡ both (x ∷ q.0) q.1)} (until_parses n (grow s x))
+        (enough (λ (q : List A × B). listed F grow apart E (grow s x) q.0 q.1) n)
+        (λ l q p text _ g k. (subst (λ (z : List A × B). KeepsFrom grow (λ v x. K v l x) (λ v c. L v l c) s z.0 z.1) g.fact k).1)
         (λ q. given_parses (both (x ∷ q.0) q.1) tt (λ all one. (one, all))))))
       where
         less : (x : A) (text left : List Word) → F s x text → length (text ++ left) ≤ suc n → length left ≤ n
@@ -199,7 +218,7 @@ module _ {S A B : Type 0} {F : S → A → List Word → Type 0} {item : S → L
     heads_nowhere y [] = refl
     heads_nowhere y (w ∷ words) = refl
 
-    abbrev step : S → Reading S
+    abbrev step : S → Parser S
     step s = bind (item s) (λ x. give (grow s x))
 
     no_limits : (l : TreeLimit) (s : S) (xs : List A) (b : B) → KeepsFrom {A = A} {B = B} grow (λ v x. Unit {0}) (λ v b. Unit {0}) s xs b
@@ -258,15 +277,23 @@ module _ {S A B : Type 0} {F : S → A → List Word → Type 0} {item : S → L
         lists : (n : ℕ) (s : S) → Parses n Always (λ p. listed F grow nowhere E s p.0 p.1)
             (λ l p. KeepsFrom grow (λ v x. Unit {0}) (λ v b. Unit {0}) s p.0 p.1)
             (λ p. KeepsFrom grow (λ v x. Unit {0}) (λ v b. Unit {0}) s p.0 p.1) (until test nowhere item grow last n s)
-        lists n s = until_parses grow test nowhere r e some_words no_end ends (λ y s x text more f. heads_nowhere y (text ++ more)) (λ y s b text more f. heads_nowhere y (text ++ more)) n s
+        lists n s = until_parses grow test nowhere r e some_words no_end ends (λ y s x text more f. heads_nowhere y (text ++ more))
+            (λ y s b text more f. heads_nowhere y (text ++ more)) n s
 
         one : (n : ℕ) (s : S) → Parses n Always (gathered F grow nowhere E s) NoLimit Always (gather test step last n s)
-        one n s = alike_parses {f = bind (until test nowhere item grow last n s) (λ (p : List A × B). give p.1)} (λ words. gather_is n s words) (said_parses {F = λ b. with (λ (p : List A × B). listed F grow nowhere E s p.0 p.1) (λ p. given (b ≡ p.1))} (λ b h. h) (λ b h. h) there back (λ b h. h)
-            (with_parses {G = λ p b. given (b ≡ p.1)} (lists n s) (enough (λ (p : List A × B). listed F grow nowhere E s p.0 p.1) n) (λ l p b text _ g k. no_limits l s p.0 p.1) (λ p. given_parses p.1 tt (λ _. tt))))
+        one n s = alike_parses {f = bind (until test nowhere item grow last n s) (λ (p : List A × B). give p.1)} (λ words. gather_is n s words)
+            (said_parses {F = λ b. with (λ (p : List A × B). listed F grow nowhere E s p.0 p.1) (λ p. given (b ≡ p.1))} (λ b h. h) (λ b h. h) there back
+            (λ b h. h)
+            (with_parses {G = λ p b. given (b ≡ p.1)} (lists n s) (enough (λ (p : List A × B). listed F grow nowhere E s p.0 p.1) n)
+            (λ l p b text _ g k. no_limits l s p.0 p.1) (λ p. given_parses p.1 tt (λ _. tt))))
           where
             there : (b : B) (text : List Word) → Always b → with (λ (p : List A × B). listed F grow nowhere E s p.0 p.1)
                 (λ p. given (b ≡ p.1)) text → gathered F grow nowhere E s b text
-            there b text _ f = record { all = f.value.0; form = subst (λ (c : B). listed F grow nowhere E s f.value.0 c text) (sym f.form.second.fact) (less_fact text f.form) }
+            there b text _ f = record {
+              all = f.value.0;
+              form = subst (λ (c : B). listed F grow nowhere E s f.value.0 c text) (sym f.form.second.fact)
+                  (less_fact text f.form);
+            }
 
             back : (b : B) (text : List Word) → Always b → gathered F grow nowhere E s b text
                 → with (λ (p : List A × B). listed F grow nowhere E s p.0 p.1) (λ p. given (b ≡ p.1)) text

@@ -11,13 +11,14 @@ use Rattle.oa_idl.specs.declared.items.Item.{Item}
 use Rattle.oa_idl.specs.declared.items.Item.TheVariants as items
 use Rattle.oa_idl.specs.declared.seen.EntriesSeen.{EntriesSeen}
 use Rattle.oa_idl.specs.declared.seen.ItemsSeen.{ItemsSeen}
-use Rattle.oa_idl.specs.Forms.{Word, nowhere}
-use Rattle.oa_idl.specs.Words.{passes}
+use Rattle.oa_idl.specs.promise.Forms.{Word, nowhere}
+use Rattle.oa_idl.specs.promise.Words.{passes}
 use Rattle.oa_idl.specs.declared.parts.MethodKind.{MethodKind}
-use Rattle.oa_idl.specs.Grammar.{no_items, items_grow, may_end, LibraryContent, semicolon_after, elements_grow, items_in}
-use Rattle.oa_idl.specs.Grammar.LibraryContent.{Import, OfItem}
-use Rattle.oa_idl.specs.GrammarReading.{last_entry_at, last_parameter_at, closing_at, import_at, item_at, element_at, elements_within}
-use Rattle.oa_idl.specs.Reading.{ReadStep, Reading, and_then, bind, give, fail, done, heads, choose, require, later_words, this_at, perhaps_at}
+use Rattle.oa_idl.specs.promise.Grammar.{no_items, items_grow, may_end, LibraryContent, semicolon_after, elements_grow}
+use Rattle.oa_idl.specs.promise.Grammar.{items_in}
+use Rattle.oa_idl.specs.promise.Grammar.LibraryContent.{Import, OfItem}
+use Rattle.oa_idl.specs.GrammarReading.{last_entry_at, last_parameter_at, closing_at, import_at, item_at, content_at, elements_within}
+use Rattle.oa_idl.specs.Reading.{ReadStep, Parser, and_then, bind, give, fail, done, heads, choose, require, later_words, this_at, perhaps_at}
 use Rattle.oa_idl.specs.Reading.{until, gather, ReadsWords}
 use Rattle.oa_idl.specs.Reading.ReadStep.{Got, Stuck}
 
@@ -35,40 +36,44 @@ unfolding give
 regroup front x (Got r left) = ap (got_list left r.1) (sym (append_assoc front (x ∷ []) r.0))
 regroup front x (Stuck why left) = refl
 
-pub until_goes_on : {S A B : Type 0} (test : Word → Bool) (apart : A → Word → Bool) (item : S → Reading A) (grow : S → A → S)
-    (last : S → Reading B) (front : List A) (n i : ℕ) (state : S) (s t u : List Word) (x : A) (total : ReadStep (List A × B)) → i < n
+pub until_goes_on : {S A B : Type 0} (test : Word → Bool) (apart : A → Word → Bool) (item : S → Parser A) (grow : S → A → S)
+    (last : S → Parser B) (front : List A) (n i : ℕ) (state : S) (s t u : List Word) (x : A) (total : ReadStep (List A × B)) → i < n
     → heads test s ≡ false → item state s ≡ Got x t
     → u ≡ cond (heads (apart x) t) (later_words t) t → with_front front (until test apart item grow last (n - i) state s) ≡ total
     → with_front (front ++ x ∷ []) (until test apart item grow last (n - (i + 1)) (grow state x) u) ≡ total
 unfolding until choose bind perhaps_at
 until_goes_on test apart item grow last front n i state s t u x total lt going h is so_far =
     let k : n - i ≡ suc (n - (i + 1)) = omega arith in
-    let one : with_front front (until test apart item grow last (n - i) state s) ≡ with_front (front ++ x ∷ []) (until test apart item grow last (n - (i + 1)) (grow state x) u) = rw (k, going, h, is) (regroup front x (until test apart item grow last (n - (i + 1)) (grow state x) (cond (heads (apart x) t) (later_words t) t))) in
+    let one : with_front front (until test apart item grow last (n - i) state s) ≡ with_front (front ++ x ∷ [])
+    (until test apart item grow last (n - (i + 1)) (grow state x) u) =
+    rw (k, going, h, is) (regroup front x (until test apart item grow last (n - (i + 1)) (grow state x) (cond (heads (apart x) t) (later_words t) t))) in
     sym one ∙ so_far
 
 -- As above, without a word between the items.
-pub plain_goes_on : {S A B : Type 0} (test : Word → Bool) (item : S → Reading A) (grow : S → A → S) (last : S → Reading B) (front : List A)
+pub plain_goes_on : {S A B : Type 0} (test : Word → Bool) (item : S → Parser A) (grow : S → A → S) (last : S → Parser B) (front : List A)
     (n i : ℕ) (state : S) (s t : List Word) (x : A) (total : ReadStep (List A × B)) → i < n → heads test s ≡ false → item state s ≡ Got x t
     → with_front front (until test nowhere item grow last (n - i) state s) ≡ total
     → with_front (front ++ x ∷ []) (until test nowhere item grow last (n - (i + 1)) (grow state x) t) ≡ total
-plain_goes_on test item grow last front n i state s t x total lt going h so_far = until_goes_on test nowhere item grow last front n i state s t t x total lt going h (same x t) so_far
+plain_goes_on test item grow last front n i state s t x total lt going h so_far =
+    until_goes_on test nowhere item grow last front n i state s t t x total lt going h (same x t) so_far
   where
     same : {A : Type 0} (x : A) (t : List Word) → t ≡ cond (heads (nowhere x) t) (later_words t) t
     same x [] = refl
     same x (w ∷ t) = refl
 
-pub until_ends : {S A B : Type 0} (test : Word → Bool) (apart : A → Word → Bool) (item : S → Reading A) (grow : S → A → S)
-    (last : S → Reading B) (front : List A) (n i : ℕ) (state : S) (b : B) (s u : List Word) (total : ReadStep (List A × B)) → i < n
+pub until_ends : {S A B : Type 0} (test : Word → Bool) (apart : A → Word → Bool) (item : S → Parser A) (grow : S → A → S)
+    (last : S → Parser B) (front : List A) (n i : ℕ) (state : S) (b : B) (s u : List Word) (total : ReadStep (List A × B)) → i < n
     → heads test s ≡ true → last state s ≡ Got b u
     → with_front front (until test apart item grow last (n - i) state s) ≡ total → total ≡ Got (front, b) u
 unfolding until choose bind give
 until_ends test apart item grow last front n i state b s u total lt closed h so_far =
     let k : n - i ≡ suc (n - (i + 1)) = omega arith in
-    let one : with_front front (until test apart item grow last (n - i) state s) ≡ Got (front, b) u = rw (k, closed, h) (ap (got_list u b) (append-nil front)) in
+    let one : with_front front (until test apart item grow last (n - i) state s) ≡ Got (front, b) u =
+    rw (k, closed, h) (ap (got_list u b) (append-nil front)) in
     sym so_far ∙ one
 
 -- the end is a word of its own
-pub until_ends_at : {S A : Type 0} (test : Word → Bool) (apart : A → Word → Bool) (item : S → Reading A) (grow : S → A → S)
+pub until_ends_at : {S A : Type 0} (test : Word → Bool) (apart : A → Word → Bool) (item : S → Parser A) (grow : S → A → S)
     (front : List A) (n i : ℕ) (state : S) (s : List Word) (total : ReadStep (List A × Unit {0})) → i < n → heads test s ≡ true
     → with_front front (until test apart item grow (λ _. this_at test) (n - i) state s) ≡ total → total ≡ Got (front, done) (later_words s)
 unfolding this_at
@@ -77,8 +82,8 @@ until_ends_at test apart item grow front n i state s total lt closed so_far =
     until_ends test apart item grow (λ _. this_at test) front n i state done s (later_words s) total lt closed h so_far
 
 -- The end is not allowed yet.
-pub until_early : {S A B : Type 0} (test : Word → Bool) (apart : A → Word → Bool) (item : S → Reading A) (grow : S → A → S)
-    (last : S → Reading B) (front : List A) (n i : ℕ) (state : S) (s u : List Word) (why : Stop) (total : ReadStep (List A × B)) → i < n
+pub until_early : {S A B : Type 0} (test : Word → Bool) (apart : A → Word → Bool) (item : S → Parser A) (grow : S → A → S)
+    (last : S → Parser B) (front : List A) (n i : ℕ) (state : S) (s u : List Word) (why : Stop) (total : ReadStep (List A × B)) → i < n
     → heads test s ≡ true → last state s ≡ Stuck why u
     → with_front front (until test apart item grow last (n - i) state s) ≡ total → total ≡ Stuck why u
 unfolding until choose bind
@@ -87,8 +92,8 @@ until_early test apart item grow last front n i state s u why total lt closed h 
     let one : with_front front (until test apart item grow last (n - i) state s) ≡ Stuck why u = rw (k, closed, h) refl in
     sym so_far ∙ one
 
-pub until_stops : {S A B : Type 0} (test : Word → Bool) (apart : A → Word → Bool) (item : S → Reading A) (grow : S → A → S)
-    (last : S → Reading B) (front : List A) (n i : ℕ) (state : S) (s t : List Word) (why : Stop) (total : ReadStep (List A × B)) → i < n
+pub until_stops : {S A B : Type 0} (test : Word → Bool) (apart : A → Word → Bool) (item : S → Parser A) (grow : S → A → S)
+    (last : S → Parser B) (front : List A) (n i : ℕ) (state : S) (s t : List Word) (why : Stop) (total : ReadStep (List A × B)) → i < n
     → heads test s ≡ false → item state s ≡ Stuck why t
     → with_front front (until test apart item grow last (n - i) state s) ≡ total → total ≡ Stuck why t
 unfolding until choose bind
@@ -97,8 +102,8 @@ until_stops test apart item grow last front n i state s t why total lt going h s
     let one : with_front front (until test apart item grow last (n - i) state s) ≡ Stuck why t = rw (k, going, h) refl in
     sym so_far ∙ one
 
-pub until_out : {S A B : Type 0} (test : Word → Bool) (apart : A → Word → Bool) (item : S → Reading A) (grow : S → A → S)
-    (last : S → Reading B) (front : List A) (n i : ℕ) (state : S) (s : List Word) (total : ReadStep (List A × B)) → n ≤ i
+pub until_out : {S A B : Type 0} (test : Word → Bool) (apart : A → Word → Bool) (item : S → Parser A) (grow : S → A → S)
+    (last : S → Parser B) (front : List A) (n i : ℕ) (state : S) (s : List Word) (total : ReadStep (List A × B)) → n ≤ i
     → with_front front (until test apart item grow last (n - i) state s) ≡ total → total ≡ Stuck Syntax s
 unfolding until fail
 until_out test apart item grow last front n i state s total le so_far =
@@ -106,32 +111,38 @@ until_out test apart item grow last front n i state s total le so_far =
     let one : with_front front (until test apart item grow last (n - i) state s) ≡ Stuck Syntax s = rw k refl in
     sym so_far ∙ one
 
-pub until_err : {S A : Type 0} (test : Word → Bool) (apart : A → Word → Bool) (item : S → Reading A) (grow : S → A → S)
-    (last : S → Reading (Unit {0})) (e : Stop) (front : List A) (n i : ℕ) (state : S) (s t : List Word) (total : ReadStep (List A × Unit {0}))
+pub until_err : {S A : Type 0} (test : Word → Bool) (apart : A → Word → Bool) (item : S → Parser A) (grow : S → A → S)
+    (last : S → Parser (Unit {0})) (e : Stop) (front : List A) (n i : ℕ) (state : S) (s t : List Word) (total : ReadStep (List A × Unit {0}))
     → i < n → heads test s ≡ false → ReadsWords {X = A} (λ x. x) (Err e) t (item state s)
     → with_front front (until test apart item grow last (n - i) state s) ≡ total
     → ReadsWords {X = Vec A} (λ v. (v.items, done)) (Err e) t total
-until_err test apart item grow last Syntax front n i state s t total lt going h so_far = until_stops test apart item grow last front n i state s t Syntax total lt going h so_far
-until_err test apart item grow last (stops.Limit l) front n i state s t total lt going h so_far = until_stops test apart item grow last front n i state s t (stops.Limit l) total lt going h so_far
+until_err test apart item grow last Syntax front n i state s t total lt going h so_far =
+    until_stops test apart item grow last front n i state s t Syntax total lt going h so_far
+until_err test apart item grow last (stops.Limit l) front n i state s t total lt going h so_far = until_stops test apart item grow last front n i state s t
+    (stops.Limit l) total lt going h so_far
 until_err test apart item grow last Memory front n i state s t total lt going h so_far = tt
 
 -- As above for two sections, if the end determines the second.
-pub properties_err : {A C : Type 0} (test : Word → Bool) (apart : A → Word → Bool) (item : ℕ → Reading A) (grow : ℕ → A → ℕ)
-    (last : ℕ → Reading (List C)) (e : Stop) (front : List A) (n i state : ℕ) (s t : List Word) (total : ReadStep (List A × List C)) → i < n
+pub properties_err : {A C : Type 0} (test : Word → Bool) (apart : A → Word → Bool) (item : ℕ → Parser A) (grow : ℕ → A → ℕ)
+    (last : ℕ → Parser (List C)) (e : Stop) (front : List A) (n i state : ℕ) (s t : List Word) (total : ReadStep (List A × List C)) → i < n
     → heads test s ≡ false → ReadsWords {X = A} (λ x. x) (Err e) t (item state s)
     → with_front front (until test apart item grow last (n - i) state s) ≡ total
     → ReadsWords {X = Vec A × Vec C} (λ v. (v.0.items, v.1.items)) (Err e) t total
-properties_err test apart item grow last Syntax front n i state s t total lt going h so_far = until_stops test apart item grow last front n i state s t Syntax total lt going h so_far
-properties_err test apart item grow last (stops.Limit l) front n i state s t total lt going h so_far = until_stops test apart item grow last front n i state s t (stops.Limit l) total lt going h so_far
+properties_err test apart item grow last Syntax front n i state s t total lt going h so_far =
+    until_stops test apart item grow last front n i state s t Syntax total lt going h so_far
+properties_err test apart item grow last (stops.Limit l) front n i state s t total lt going h so_far = until_stops test apart item grow last front n i state s t
+    (stops.Limit l) total lt going h so_far
 properties_err test apart item grow last Memory front n i state s t total lt going h so_far = tt
 
-pub properties_end_err : {A C : Type 0} (test : Word → Bool) (apart : A → Word → Bool) (item : ℕ → Reading A) (grow : ℕ → A → ℕ)
-    (last : ℕ → Reading (List C)) (e : Stop) (front : List A) (n i state : ℕ) (s t : List Word) (total : ReadStep (List A × List C)) → i < n
+pub properties_end_err : {A C : Type 0} (test : Word → Bool) (apart : A → Word → Bool) (item : ℕ → Parser A) (grow : ℕ → A → ℕ)
+    (last : ℕ → Parser (List C)) (e : Stop) (front : List A) (n i state : ℕ) (s t : List Word) (total : ReadStep (List A × List C)) → i < n
     → heads test s ≡ true → ReadsWords {X = Vec C} (λ v. v.items) (Err e) t (last state s)
     → with_front front (until test apart item grow last (n - i) state s) ≡ total
     → ReadsWords {X = Vec A × Vec C} (λ v. (v.0.items, v.1.items)) (Err e) t total
-properties_end_err test apart item grow last Syntax front n i state s t total lt closed h so_far = until_early test apart item grow last front n i state s t Syntax total lt closed h so_far
-properties_end_err test apart item grow last (stops.Limit l) front n i state s t total lt closed h so_far = until_early test apart item grow last front n i state s t (stops.Limit l) total lt closed h so_far
+properties_end_err test apart item grow last Syntax front n i state s t total lt closed h so_far =
+    until_early test apart item grow last front n i state s t Syntax total lt closed h so_far
+properties_end_err test apart item grow last (stops.Limit l) front n i state s t total lt closed h so_far =
+    until_early test apart item grow last front n i state s t (stops.Limit l) total lt closed h so_far
 properties_end_err test apart item grow last Memory front n i state s t total lt closed h so_far = tt
 
 -- ---- If only the state is kept.
@@ -143,7 +154,7 @@ some_more n h = let k : 0 < n = positive n h in omega (arith, k)
     positive zero h = absurd (h refl)
     positive (suc n) h = omega arith
 
-pub gather_goes_on : {S B : Type 0} (test : Word → Bool) (step : S → Reading S) (last : S → Reading B) (n : ℕ) (state next : S)
+pub gather_goes_on : {S B : Type 0} (test : Word → Bool) (step : S → Parser S) (last : S → Parser B) (n : ℕ) (state next : S)
     (s t u : List Word) (result : Result B Stop) → (n ≡ 0 → ⊥) → heads test s ≡ false → step state s ≡ Got next t
     → ReadsWords {X = B} (λ x. x) result u (gather test step last (n - 1) next t)
     → ReadsWords {X = B} (λ x. x) result u (gather test step last n state s)
@@ -154,7 +165,7 @@ gather_goes_on {S} {B} test step last n state next s t u result some going h a =
     one : (m : ℕ) → gather test step last (suc m) state s ≡ gather test step last m next t
     one m = rw (going, h) refl
 
-pub gather_ends : {S B : Type 0} (test : Word → Bool) (step : S → Reading S) (last : S → Reading B) (n : ℕ) (state : S) (s t : List Word)
+pub gather_ends : {S B : Type 0} (test : Word → Bool) (step : S → Parser S) (last : S → Parser B) (n : ℕ) (state : S) (s t : List Word)
     (result : Result B Stop) → (n ≡ 0 → ⊥) → heads test s ≡ true → ReadsWords {X = B} (λ x. x) result t (last state s)
     → ReadsWords {X = B} (λ x. x) result t (gather test step last n state s)
 unfolding gather choose
@@ -162,13 +173,13 @@ gather_ends test step last n state s t result some closed h =
     let one : gather test step last n state s ≡ last state s = rw (some_more n some, closed) refl in
     subst (ReadsWords (λ x. x) result t) (sym one) h
 
-gather_stops : {S B : Type 0} (test : Word → Bool) (step : S → Reading S) (last : S → Reading B) (n : ℕ) (state : S) (s t : List Word)
+gather_stops : {S B : Type 0} (test : Word → Bool) (step : S → Parser S) (last : S → Parser B) (n : ℕ) (state : S) (s t : List Word)
     (why : Stop) → (n ≡ 0 → ⊥) → heads test s ≡ false → step state s ≡ Stuck why t
     → gather test step last n state s ≡ Stuck why t
 unfolding gather choose bind
 gather_stops test step last n state s t why some going h = rw (some_more n some, going, h) refl
 
-pub gather_err : {S B : Type 0} (test : Word → Bool) (step : S → Reading S) (last : S → Reading B) (e : Stop) (n : ℕ) (state : S)
+pub gather_err : {S B : Type 0} (test : Word → Bool) (step : S → Parser S) (last : S → Parser B) (e : Stop) (n : ℕ) (state : S)
     (s t : List Word) → (n ≡ 0 → ⊥) → heads test s ≡ false → ReadsWords {X = S} (λ x. x) (Err e) t (step state s)
     → ReadsWords {X = B} (λ x. x) (Err e) t (gather test step last n state s)
 gather_err test step last Syntax n state s t some going h = gather_stops test step last n state s t Syntax some going h
@@ -205,7 +216,7 @@ either_heads a b (w ∷ words) = refl
 -- ---- imports and items
 
 abbrev pub so_far_read : ℕ → ItemsSeen → List Word → ReadStep (List LibraryContent × Unit {0})
-so_far_read n s words = until (passes (codes "}")) semicolon_after element_at elements_grow closing_at n s words
+so_far_read n s words = until (passes (codes "}")) semicolon_after content_at elements_grow closing_at n s words
 
 -- The items among the elements read so far.
 pub record ItemsRead (xs : List Item) (n : ℕ) (s : ItemsSeen) (words : List Word) (total : ReadStep (List LibraryContent × Unit {0})) : Type 0 where
@@ -213,7 +224,7 @@ pub record ItemsRead (xs : List Item) (n : ℕ) (s : ItemsSeen) (words : List Wo
   pub are : items_in front ≡ xs
   pub so_far : with_front front (so_far_read n s words) ≡ total
 
-abbrev items_alone : List LibraryContent × Unit {0} → Reading (List Item)
+abbrev items_alone : List LibraryContent × Unit {0} → Parser (List Item)
 items_alone es = give (items_in es.0)
 
 more_items : (es : List LibraryContent) (x : Item) → items_in (es ++ OfItem x ∷ []) ≡ items_in es ++ x ∷ []
@@ -236,13 +247,13 @@ word_after x [] = refl
 word_after x (w ∷ t) = refl
 
 at_item : (s : ItemsSeen) (words t : List Word) (x : Item) → heads (passes (codes "importlib")) words ≡ false → item_at s words ≡ Got x t
-    → element_at s words ≡ Got (OfItem x) t
-unfolding element_at choose bind give
+    → content_at s words ≡ Got (OfItem x) t
+unfolding content_at choose bind give
 at_item s words t x is h = rw (is, h) refl
 
 at_import : (s : ItemsSeen) (words t : List Word) → heads (passes (codes "importlib")) words ≡ true → import_at words ≡ Got done t
-    → element_at s words ≡ Got Import t
-unfolding element_at choose bind give
+    → content_at s words ≡ Got Import t
+unfolding content_at choose bind give
 at_import s words t is h = rw (is, h) refl
 
 pub items_go_on : (xs : List Item) (n i : ℕ) (s : ItemsSeen) (words t u : List Word) (x : Item) (total : ReadStep (List LibraryContent × Unit {0}))
@@ -252,7 +263,8 @@ pub items_go_on : (xs : List Item) (n i : ℕ) (s : ItemsSeen) (words t u : List
 items_go_on xs n i s words t u x total lt going here h is r = record {
   front = r.front ++ OfItem x ∷ [];
   are = more_items r.front x ∙ ap (λ (ys : List Item). ys ++ x ∷ []) r.are;
-  so_far = until_goes_on (passes (codes "}")) semicolon_after element_at elements_grow closing_at r.front n i s words t u (OfItem x) total lt going (at_item s words t x here h) (is ∙ word_after x t) r.so_far;
+  so_far = until_goes_on (passes (codes "}")) semicolon_after content_at elements_grow closing_at r.front n i s words t u (OfItem x) total lt going
+      (at_item s words t x here h) (is ∙ word_after x t) r.so_far;
 }
 
 pub imports_go_on : (xs : List Item) (n i : ℕ) (s : ItemsSeen) (words t : List Word) (total : ReadStep (List LibraryContent × Unit {0})) → i < n
@@ -261,14 +273,16 @@ pub imports_go_on : (xs : List Item) (n i : ℕ) (s : ItemsSeen) (words t : List
 imports_go_on xs n i s words t total lt going here h r = record {
   front = r.front ++ Import ∷ [];
   are = more_imports r.front ∙ r.are;
-  so_far = until_goes_on (passes (codes "}")) semicolon_after element_at elements_grow closing_at r.front n i s words t t Import total lt going (at_import s words t here h) (no_word_after t) r.so_far;
+  so_far = until_goes_on (passes (codes "}")) semicolon_after content_at elements_grow closing_at r.front n i s words t t Import total lt going
+      (at_import s words t here h) (no_word_after t) r.so_far;
 }
 
 pub items_end : (xs : List Item) (n i room : ℕ) (s : ItemsSeen) (words start : List Word) → i < n → heads (passes (codes "}")) words ≡ true
     → ItemsRead xs (n - i) s words (so_far_read room no_items start) → elements_within room start ≡ Got xs (later_words words)
 unfolding elements_within bind give
 items_end xs n i room s words start lt closed r =
-    let one = until_ends_at (passes (codes "}")) semicolon_after element_at elements_grow r.front n i s words (so_far_read room no_items start) lt closed r.so_far in
+    let one = until_ends_at (passes (codes "}")) semicolon_after content_at elements_grow r.front n i s words
+    (so_far_read room no_items start) lt closed r.so_far in
     ap (λ (o : ReadStep (List LibraryContent × Unit {0})). and_then o items_alone) one ∙ ap (λ (ys : List Item). got_items ys (later_words words)) r.are
   where
     got_items : List Item → List Word → ReadStep (List Item)
@@ -281,30 +295,36 @@ items_stuck room start t why e = ap (λ (o : ReadStep (List LibraryContent × Un
 
 pub items_out : (xs : List Item) (n i room : ℕ) (s : ItemsSeen) (words start : List Word) → n ≤ i
     → ItemsRead xs (n - i) s words (so_far_read room no_items start) → elements_within room start ≡ Stuck Syntax words
-items_out xs n i room s words start le r = items_stuck room start words Syntax (until_out (passes (codes "}")) semicolon_after element_at elements_grow closing_at r.front n i s words (so_far_read room no_items start) le r.so_far)
+items_out xs n i room s words start le r =
+    items_stuck room start words Syntax (until_out (passes (codes "}")) semicolon_after content_at elements_grow closing_at r.front n i s words
+    (so_far_read room no_items start) le r.so_far)
 
 item_stops : (s : ItemsSeen) (words t : List Word) (why : Stop) → heads (passes (codes "importlib")) words ≡ false
-    → item_at s words ≡ Stuck why t → element_at s words ≡ Stuck why t
-unfolding element_at choose bind
+    → item_at s words ≡ Stuck why t → content_at s words ≡ Stuck why t
+unfolding content_at choose bind
 item_stops s words t why is h = rw (is, h) refl
 
 import_stops : (s : ItemsSeen) (words t : List Word) (why : Stop) → heads (passes (codes "importlib")) words ≡ true
-    → import_at words ≡ Stuck why t → element_at s words ≡ Stuck why t
-unfolding element_at choose bind
+    → import_at words ≡ Stuck why t → content_at s words ≡ Stuck why t
+unfolding content_at choose bind
 import_stops s words t why is h = rw (is, h) refl
 
 content_stops : (xs : List Item) (n i room : ℕ) (s : ItemsSeen) (words t start : List Word) (why : Stop) → i < n
-    → heads (passes (codes "}")) words ≡ false → element_at s words ≡ Stuck why t
+    → heads (passes (codes "}")) words ≡ false → content_at s words ≡ Stuck why t
     → ItemsRead xs (n - i) s words (so_far_read room no_items start) → elements_within room start ≡ Stuck why t
-content_stops xs n i room s words t start why lt going h r = items_stuck room start t why (until_stops (passes (codes "}")) semicolon_after element_at elements_grow closing_at r.front n i s words t why (so_far_read room no_items start) lt going h r.so_far)
+content_stops xs n i room s words t start why lt going h r =
+    items_stuck room start t why (until_stops (passes (codes "}")) semicolon_after content_at elements_grow closing_at r.front n i s words t why
+    (so_far_read room no_items start) lt going h r.so_far)
 
 pub items_err : (e : Stop) (xs : List Item) (n i room : ℕ) (s : ItemsSeen) (words t start : List Word) → i < n
     → heads (passes (codes "}")) words ≡ false → heads (passes (codes "importlib")) words ≡ false
     → ReadsWords {X = Item} (λ x. x) (Err e) t (item_at s words)
     → ItemsRead xs (n - i) s words (so_far_read room no_items start)
     → ReadsWords {X = Vec Item} (λ v. v.items) (Err e) t (elements_within room start)
-items_err Syntax xs n i room s words t start lt going here h r = content_stops xs n i room s words t start Syntax lt going (item_stops s words t Syntax here h) r
-items_err (stops.Limit l) xs n i room s words t start lt going here h r = content_stops xs n i room s words t start (stops.Limit l) lt going (item_stops s words t (stops.Limit l) here h) r
+items_err Syntax xs n i room s words t start lt going here h r = content_stops xs n i room s words t start Syntax lt going
+    (item_stops s words t Syntax here h) r
+items_err (stops.Limit l) xs n i room s words t start lt going here h r = content_stops xs n i room s words t start (stops.Limit l) lt going
+    (item_stops s words t (stops.Limit l) here h) r
 items_err Memory xs n i room s words t start lt going here h r = tt
 
 pub imports_err : (e : Stop) (xs : List Item) (n i room : ℕ) (s : ItemsSeen) (words t start : List Word) → i < n
@@ -312,8 +332,10 @@ pub imports_err : (e : Stop) (xs : List Item) (n i room : ℕ) (s : ItemsSeen) (
     → ReadsWords {X = Unit {0}} (λ _. done) (Err e) t (import_at words)
     → ItemsRead xs (n - i) s words (so_far_read room no_items start)
     → ReadsWords {X = Vec Item} (λ v. v.items) (Err e) t (elements_within room start)
-imports_err Syntax xs n i room s words t start lt going here h r = content_stops xs n i room s words t start Syntax lt going (import_stops s words t Syntax here h) r
-imports_err (stops.Limit l) xs n i room s words t start lt going here h r = content_stops xs n i room s words t start (stops.Limit l) lt going (import_stops s words t (stops.Limit l) here h) r
+imports_err Syntax xs n i room s words t start lt going here h r = content_stops xs n i room s words t start Syntax lt going
+    (import_stops s words t Syntax here h) r
+imports_err (stops.Limit l) xs n i room s words t start lt going here h r = content_stops xs n i room s words t start (stops.Limit l) lt going
+    (import_stops s words t (stops.Limit l) here h) r
 imports_err Memory xs n i room s words t start lt going here h r = tt
 
 pub few_interfaces : (s : ItemsSeen) (x : Item) (n : ℕ) → s.interfaces ≤ n → (items_grow s x).interfaces ≤ n + 1

@@ -7,21 +7,22 @@ use Rattle.std.proofs.lemmas.List.{length-append}
 use Rattle.oa_model.specs.declared.var_type.VarType.TheVariants as types
 use Rattle.oa_model.specs.declared.var_type.ValueType.{ValueType}
 use Rattle.oa_model.specs.declared.var_type.ValueType.TheVariants as values
-use Rattle.oa_model.specs.Limits.{max_members}
+use Rattle.oa_model.specs.promise.Limits.{max_members}
 use Rattle.oa_idl.specs.declared.stop.TreeLimit.{TreeLimit}
 use Rattle.oa_idl.specs.declared.stop.TreeLimit.TheVariants as limits
 use Rattle.oa_idl.specs.declared.parts.MethodKind.{MethodKind}
 use Rattle.oa_idl.specs.declared.parts.Parameter.{Parameter}
 use Rattle.oa_idl.specs.declared.seen.MethodSeen.{MethodSeen}
 use Rattle.oa_idl.specs.declared.seen.MethodHead.{MethodHead}
-use Rattle.oa_idl.specs.MethodValues.{MethodValue}
-use Rattle.oa_idl.specs.Forms.{Word, ◌▸◌, where_is, listed, nowhere}
-use Rattle.oa_idl.specs.Words.{passes, plain_type, name_of, over}
+use Rattle.oa_idl.specs.promise.MethodValues.{MethodValue}
+use Rattle.oa_idl.specs.promise.Forms.{Word, ◌▸◌, where_is, listed, nowhere}
+use Rattle.oa_idl.specs.promise.Words.{passes, plain_type, name_of}
+use Rattle.oa_idl.specs.Words.{over}
 use Rattle.oa_idl.specs.Reading.{heads, done, list_at}
-use Rattle.oa_idl.specs.Grammar.{sign, one_more, closing, MethodAttribute, method_attribute, no_method, is_form, method_may}
-use Rattle.oa_idl.specs.Grammar.{method_grow, method_finish, method_head, may_be_void, may_have_type, result_type, method_body, method}
-use Rattle.oa_idl.specs.Grammar.{methods}
-use Rattle.oa_idl.specs.Grammar.MethodAttribute.{MethodId, Propget, Propput, MethodHelp}
+use Rattle.oa_idl.specs.promise.Grammar.{symbol, one_more, closing, MethodAttribute, method_attribute, no_method}
+use Rattle.oa_idl.specs.promise.Grammar.{is_form, method_may, method_grow, method_finish, method_head, may_be_void}
+use Rattle.oa_idl.specs.promise.Grammar.{may_have_type, result_type, method_body, method, methods}
+use Rattle.oa_idl.specs.promise.Grammar.MethodAttribute.{MethodId, Propget, Propput, MethodHelp}
 use Rattle.oa_idl.specs.GrammarReading.{closing_at, method_attribute_at, method_full, method_head_at, result_type_at}
 use Rattle.oa_idl.specs.GrammarReading.{method_body_at, method_at, methods_at, ends_properties}
 use Rattle.oa_idl.proofs.NameLimits.{over_named}
@@ -120,10 +121,13 @@ unfolding method_attribute_at Coming
 method_attribute_parses s = tagged_parses {F = Coming s} (passes (codes "id")) is_id (λ x text more f. id_heads x text more f.1)
     (free_branch_parses {F = Coming s} (λ i. MethodId i) id_in only_id (λ a. ((tt, refl), refl)) (require_parses (not (is_some s.id)) numbered_parses))
     (tagged_parses {F = Coming s} (passes (codes "propget")) is_get (λ x text more f. get_heads x text more f.1)
-    (free_branch_parses {F = Coming s} (λ (_ : Unit {0}). Propget) (λ _. done) only_get (λ a. (((tt, refl), refl), refl)) (require_parses (not (is_form s.kind)) (this_parses (passes (codes "propget")))))
+    (free_branch_parses {F = Coming s} (λ (_ : Unit {0}). Propget) (λ _. done) only_get (λ a. (((tt, refl), refl), refl))
+    (require_parses (not (is_form s.kind)) (this_parses (passes (codes "propget")))))
     (tagged_parses {F = Coming s} (passes (codes "propput")) is_put (λ x text more f. put_heads x text more f.1)
-    (free_branch_parses {F = Coming s} (λ (_ : Unit {0}). Propput) (λ _. done) only_put (λ a. ((((tt, refl), refl), refl), refl)) (require_parses (not (is_form s.kind)) (this_parses (passes (codes "propput")))))
-    (free_branch_parses {F = Coming s} (λ (_ : Unit {0}). MethodHelp) (λ _. done) only_help (λ a. ((((tt, refl), refl), refl), refl)) (require_parses (not s.help) help_parses))))
+    (free_branch_parses {F = Coming s} (λ (_ : Unit {0}). Propput) (λ _. done) only_put (λ a. ((((tt, refl), refl), refl), refl))
+    (require_parses (not (is_form s.kind)) (this_parses (passes (codes "propput")))))
+    (free_branch_parses {F = Coming s} (λ (_ : Unit {0}). MethodHelp) (λ _. done) only_help (λ a. ((((tt, refl), refl), refl), refl))
+    (require_parses (not s.help) help_parses))))
 
 method_head_parses : {n : ℕ} → Parses n Always method_head NoLimit Always method_head_at
 unfolding method_head method_head_at
@@ -162,14 +166,16 @@ only_type (Some t) h = refl
 result_type_parses : {n : ℕ} (k : MethodKind) → Parses n Always (result_type k) NoLimit Always (result_type_at k)
 unfolding result_type result_type_at
 result_type_parses k = tagged_parses {F = result_type k} (passes (codes "void")) is_void (λ o text more f. void_heads k o text more f)
-    (free_branch_parses {F = result_type k} (λ (_ : Unit {0}). None) (λ _. done) only_void (λ a. ((tt, refl), refl)) (require_parses (may_be_void k) (this_parses (passes (codes "void")))))
+    (free_branch_parses {F = result_type k} (λ (_ : Unit {0}). None) (λ _. done) only_void (λ a. ((tt, refl), refl))
+    (require_parses (may_be_void k) (this_parses (passes (codes "void")))))
     (free_branch_parses {F = result_type k} (λ t. Some t) type_in only_type (λ a. ((tt, refl), refl)) (require_parses (may_have_type k) value_type_parses))
 
 -- ---- methods
 
 -- a method is none too many, its name is not too long, and its parameters keep the limits
 abbrev pub MethodKeeps : ℕ → TreeLimit → MethodValue → Type 0
-MethodKeeps n l m = (over limits.Members max_members n m.name ≡ Some l → ⊥) × KeepsFrom {B = Unit {0}} one_more (λ k p. ParameterKeeps k l p) NoEndLimit 0 m.parameters tt
+MethodKeeps n l m = (over limits.Members max_members n m.name ≡ Some l → ⊥)
+    × KeepsFrom {B = Unit {0}} one_more (λ k p. ParameterKeeps k l p) NoEndLimit 0 m.parameters tt
 
 abbrev pub MethodKept : ℕ → MethodValue → Type 0
 MethodKept n m = (over limits.Members max_members n m.name ≡ None) × KeepsFrom {B = Unit {0}} one_more ParameterKept NoEndLimit 0 m.parameters tt
@@ -187,15 +193,19 @@ method_body_parses : {n : ℕ} (count : ℕ) (h : MethodHead)
     → Parses n (λ m. Always m × (marks m ≡ h)) (method_body h.kind) (λ l m. MethodKeeps count l m) (λ m. MethodKept count m)
     (method_body_at count h)
 unfolding method_body_at marks parameters_of
-method_body_parses count h = part_parses (λ m. m.value_type) (result_type_parses h.kind) (λ l m r k. tt) (λ t. part_parses (λ m. m.name) (one_parses name_of (over limits.Members max_members count) (over_named limits.Members max_members count (λ k. absurd cc))) (λ l m r k. k.0) (λ name. skip_parses (passes (codes "("))
+method_body_parses count h = part_parses (λ m. m.value_type) (result_type_parses h.kind) (λ l m r k. tt)
+    (λ t. part_parses (λ m. m.name) (one_parses name_of (over limits.Members max_members count) (over_named limits.Members max_members count (λ k. absurd cc)))
+    (λ l m r k. k.0) (λ name. skip_parses (passes (codes "("))
     (part_parses parameters_of (parameters_parses h.kind) (λ l m r k. k.1) (λ ps. skip_parses (passes (codes ";"))
-    (give_parses (record { id = h.id; kind = h.kind; value_type = t; name = name; parameters = ps.0 }) ((((tt, refl), refl), refl), refl) (λ all kept _. (kept, all))
+    (give_parses (record { id = h.id; kind = h.kind; value_type = t; name = name; parameters = ps.0 }) ((((tt, refl), refl), refl), refl)
+    (λ all kept _. (kept, all))
     (λ m k. λ i. record { id = (k.0.0.0.1 i).id; kind = (k.0.0.0.1 i).kind; value_type = k.0.0.1 i; name = k.0.1 i; parameters = ps_of (k.1 i) }))))))
 
 method_parses : {n : ℕ} (count : ℕ) → Parses n Always method (λ l m. MethodKeeps count l m) (λ m. MethodKept count m) (method_at count)
 unfolding method method_at marks
 method_parses count = part_parses marks method_head_parses (λ l m h k. tt) (λ h. said_parses {F = method_body h.kind} (λ m k. k) (λ m k. k)
-    (λ m t k f. subst (λ (j : MethodKind). method_body j m t) (sym (ap kind_in k.1)) f) (λ m t k f. subst (λ (j : MethodKind). method_body j m t) (ap kind_in k.1) f) (λ m k _. k) (method_body_parses count h))
+    (λ m t k f. subst (λ (j : MethodKind). method_body j m t) (sym (ap kind_in k.1)) f)
+    (λ m t k f. subst (λ (j : MethodKind). method_body j m t) (ap kind_in k.1) f) (λ m k _. k) (method_body_parses count h))
   where
     kind_in : MethodHead → MethodKind
     kind_in h = h.kind
@@ -224,23 +234,29 @@ MethodsKept n ms = KeepsFrom {B = Unit {0}} one_more MethodKept NoEndLimit n ms 
 method_list_parses : {n : ℕ} (count : ℕ) → Parses n Always (λ p. listed (λ k. method) one_more nowhere closing count p.0 p.1)
     (λ l p. KeepsFrom one_more (λ n m. MethodKeeps n l m) NoEndLimit count p.0 p.1)
     (λ p. KeepsFrom one_more MethodKept NoEndLimit count p.0 p.1) (list_at (passes (codes "}")) nowhere method_at one_more closing_at count)
-method_list_parses {n} count = list_parses one_more (passes (codes "}")) nowhere (λ n s. method_parses s) (λ n s. this_parses (passes (codes "}"))) (λ s m text f. method_some m text f) (λ s m text more f. method_heads (passes (codes "}")) (λ w is. other_sign (codes "}") (codes "[") refl w is) m text more f)
-    (λ s b text more f. this_heads (passes (codes "}")) text more f) (λ y s m text more f. never_heads y (text ++ more)) (λ y s b text more f. never_heads y (text ++ more)) n count
+method_list_parses {n} count = list_parses one_more (passes (codes "}")) nowhere (λ n s. method_parses s) (λ n s. this_parses (passes (codes "}")))
+    (λ s m text f. method_some m text f) (λ s m text more f. method_heads (passes (codes "}")) (λ w is. other_sign (codes "}") (codes "[") refl w is) m text
+    more f)
+    (λ s b text more f. this_heads (passes (codes "}")) text more f) (λ y s m text more f. never_heads y (text ++ more))
+    (λ y s b text more f. never_heads y (text ++ more)) n count
 
 abbrev ms_of : List MethodValue × Unit {0} → List MethodValue
 ms_of p = p.0
 
 section : ℕ → List MethodValue → List Word → Type 0
-section n ms = sign (codes "methods") ▸ sign (codes ":") ▸ listed (λ k. method) one_more nowhere closing n ms tt
+section n ms = symbol (codes "methods") ▸ symbol (codes ":") ▸ listed (λ k. method) one_more nowhere closing n ms tt
 
 pub methods_parses : {n : ℕ} (count : ℕ) → Parses n Always (methods count) (λ l ms. MethodsKeep count l ms) (λ ms. MethodsKept count ms)
     (methods_at count)
 unfolding methods_at section
-methods_parses count = choose_parses {A = section count} {B = λ ms ws. (ms ≡ []) × sign (codes "}") ws} (passes (codes "methods"))
-    (λ ms text more _ f is. ⊎_elim (λ (k : section count ms text). k) (λ (k : where_is (ms ≡ []) (sign (codes "}")) text). absurd (clash is (one_sign_heads (codes "methods") (codes "}") refl text more k.1))) f)
-    (λ ms text more _ f is. ⊎_elim (λ (k : section count ms text). absurd (clash (same_heads (codes "methods") text more k) is)) (λ (k : where_is (ms ≡ []) (sign (codes "}")) text). k) f)
+methods_parses count = choose_parses {A = section count} {B = λ ms ws. (ms ≡ []) × symbol (codes "}") ws} (passes (codes "methods"))
+    (λ ms text more _ f is. ⊎_elim (λ (k : section count ms text). k)
+    (λ (k : where_is (ms ≡ []) (symbol (codes "}")) text). absurd (clash is (one_sign_heads (codes "methods") (codes "}") refl text more k.1))) f)
+    (λ ms text more _ f is. ⊎_elim (λ (k : section count ms text). absurd (clash (same_heads (codes "methods") text more k) is))
+    (λ (k : where_is (ms ≡ []) (symbol (codes "}")) text). k) f)
     (λ ms text _ f. inl f) (λ ms text _ f. inr f)
-    (skip_parses (passes (codes "methods")) (skip_parses (passes (codes ":")) (end_part_parses (λ ms. both ms tt) ms_of (method_list_parses count) (λ l ms h k. k) (λ a. (tt, whole a)) (λ a kept. kept) (λ a ms h. ap ms_of h.1))))
+    (skip_parses (passes (codes "methods")) (skip_parses (passes (codes ":"))
+    (end_part_parses (λ ms. both ms tt) ms_of (method_list_parses count) (λ l ms h k. k) (λ a. (tt, whole a)) (λ a kept. kept) (λ a ms h. ap ms_of h.1))))
     (fact_parses (end_parses (passes (codes "}")) [] (tt, refl) tt (λ ms h. h.1)))
   where
     whole : (a : List MethodValue × Unit {0}) → both (ms_of a) tt ≡ a
@@ -253,14 +269,18 @@ or_right false = refl
 pub methods_heads : (n : ℕ) (ms : List MethodValue) (text more : List Word) → methods n ms text
     → heads ends_properties (text ++ more) ≡ true
 methods_heads n ms text more f = ⊎_elim
-    (λ (k : (sign (codes "methods") ▸ sign (codes ":") ▸ listed (λ j. method) one_more nowhere closing n ms tt) text). first_heads ends_properties (passes (codes "methods")) true (λ w is. ap (λ (b : Bool). b || passes (codes "}") w) is) text more k)
-    (λ (k : where_is (ms ≡ []) (sign (codes "}")) text). ap (λ (ws : List Word). heads ends_properties (ws ++ more)) k.1.parts ∙ ap (λ (b : Bool). passes (codes "methods") k.1.word || b) k.1.is ∙ or_right (passes (codes "methods") k.1.word)) f
+    (λ (k : (symbol (codes "methods") ▸ symbol (codes ":") ▸ listed (λ j. method) one_more nowhere closing n ms tt) text). first_heads ends_properties
+    (passes (codes "methods")) true (λ w is. ap (λ (b : Bool). b || passes (codes "}") w) is) text more k)
+    (λ (k : where_is (ms ≡ []) (symbol (codes "}")) text). ap (λ (ws : List Word). heads ends_properties (ws ++ more)) k.1.parts
+    ∙ ap (λ (b : Bool). passes (codes "methods") k.1.word || b) k.1.is ∙ or_right (passes (codes "methods") k.1.word)) f
 
 pub methods_begin : (n : ℕ) (ms : List MethodValue) (text more : List Word) → methods n ms text
     → heads (passes (codes "properties")) (text ++ more) ≡ false
 methods_begin n ms text more f = ⊎_elim
-    (λ (k : (sign (codes "methods") ▸ sign (codes ":") ▸ listed (λ j. method) one_more nowhere closing n ms tt) text). sign_heads (codes "properties") (codes "methods") refl text more k)
-    (λ (k : where_is (ms ≡ []) (sign (codes "}")) text). one_sign_heads (codes "properties") (codes "}") refl text more k.1) f
+    (λ (k : (symbol (codes "methods") ▸ symbol (codes ":") ▸ listed (λ j. method) one_more nowhere closing n ms tt) text). sign_heads (codes "properties")
+    (codes "methods") refl text more k)
+    (λ (k : where_is (ms ≡ []) (symbol (codes "}")) text). one_sign_heads (codes "properties") (codes "}") refl text more k.1) f
 
 pub open_ends_nothing : (w : Word) → passes (codes "[") w ≡ true → ends_properties w ≡ false
-open_ends_nothing w is = ap (λ (b : Bool). b || passes (codes "}") w) (other_sign (codes "methods") (codes "[") refl w is) ∙ other_sign (codes "}") (codes "[") refl w is
+open_ends_nothing w is = ap (λ (b : Bool). b || passes (codes "}") w) (other_sign (codes "methods") (codes "[") refl w is)
+    ∙ other_sign (codes "}") (codes "[") refl w is

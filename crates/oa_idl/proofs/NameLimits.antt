@@ -3,11 +3,12 @@ use Rattle.std.proofs.Common.{◌≡◌, ℕ, ◌<◌, ◌≤◌, Bool, true, fa
 use Rattle.std.proofs.Common.{leb-true}
 use Rattle.std.specs.Prelude.{nat_lt, nat_le, if◌then◌else◌}
 use Rattle.std.proofs.Math.Logic.{⊎_elim, inl, inr}
-use Rattle.oa_model.specs.Limits.{max_name_characters}
+use Rattle.oa_model.specs.promise.Limits.{max_name_characters}
 use Rattle.oa_idl.specs.declared.stop.TreeLimit.{TreeLimit}
 use Rattle.oa_idl.specs.declared.stop.TreeLimit.TheVariants as limits
-use Rattle.oa_idl.specs.Forms.{Word}
-use Rattle.oa_idl.specs.Words.{name_of, over, TooLong, NamedAt}
+use Rattle.oa_idl.specs.promise.Forms.{Word}
+use Rattle.oa_idl.specs.promise.Words.{name_of}
+use Rattle.oa_idl.specs.Words.{over, TooLong, NamedAt}
 
 abbrev some : TreeLimit → Option TreeLimit
 some m = Some m
@@ -47,7 +48,8 @@ pub over_named : (m : TreeLimit) (b c : ℕ) → (m ≡ limits.Name → ⊥) →
 over_named m b c apart l w name is e = record {
   name = name;
   is = is;
-  long = ⊎_elim (λ (k : (max_name_characters < length name) × (limits.Name ≡ l)). long_name l name k.0 k.1) (λ (k : (b ≤ c) × (m ≡ l)). free l m name apart k.1) (over_is m l b c name e);
+  long = ⊎_elim (λ (k : (max_name_characters < length name) × (limits.Name ≡ l)). long_name l name k.0 k.1) (λ (k : (b ≤ c) × (m ≡ l)). free l m name apart k.1)
+      (over_is m l b c name e);
 }
 
 -- and so is that of names alone
@@ -55,5 +57,6 @@ pub long_named : (l : TreeLimit) (w : Word) (name : List ℕ) → name_of w ≡ 
 long_named l w name is e = record {
   name = name;
   is = is;
-  long = ⊎_elim (λ (k : (max_name_characters < length name) × (limits.Name ≡ l)). long_name l name k.0 k.1) (λ (k : (1 ≤ 0) × (limits.Name ≡ l)). absurd (omega (arith, k.0))) (over_is limits.Name l 1 0 name e);
+  long = ⊎_elim (λ (k : (max_name_characters < length name) × (limits.Name ≡ l)). long_name l name k.0 k.1)
+      (λ (k : (1 ≤ 0) × (limits.Name ≡ l)). absurd (omega (arith, k.0))) (over_is limits.Name l 1 0 name e);
 }

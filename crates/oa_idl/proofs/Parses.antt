@@ -8,8 +8,9 @@ use Rattle.oa_idl.specs.declared.stop.TreeLimit.{TreeLimit}
 use Rattle.oa_idl.specs.declared.stop.Stop.{Stop}
 use Rattle.oa_idl.specs.declared.stop.Stop.TheVariants.{Syntax, Memory}
 use Rattle.oa_idl.specs.declared.stop.Stop.TheVariants as stops
-use Rattle.oa_idl.specs.Forms.{Word, this, BeginsWithWords}
-use Rattle.oa_idl.specs.Reading.{ReadStep, Reading, and_then, heads, done, later_words, this_at}
+use Rattle.oa_idl.specs.promise.Forms.{Word, this}
+use Rattle.oa_idl.specs.Forms.{BeginsWithWords}
+use Rattle.oa_idl.specs.Reading.{ReadStep, Parser, and_then, heads, done, later_words, this_at}
 use Rattle.oa_idl.specs.Words.{NamedAt}
 use Rattle.oa_idl.specs.Reading.ReadStep.{Got, Stuck}
 
@@ -75,7 +76,7 @@ got x left = Got x left
 pub got_is : {A : Type 0} (x y : A) (s t : List Word) → got x s ≡ Got y t → (x ≡ y) × (s ≡ t)
 got_is x y s t e = (cc, cc)
 
-pub bind_got : {A B : Type 0} (r : ReadStep A) (next : A → Reading B) (y : B) (t : List Word) → and_then r next ≡ Got y t
+pub bind_got : {A B : Type 0} (r : ReadStep A) (next : A → Parser B) (y : B) (t : List Word) → and_then r next ≡ Got y t
     → (x : A) × (s : List Word) × (r ≡ Got x s) × (next x s ≡ Got y t)
 bind_got (Got x s) next y t e = (x, s, refl, e)
 bind_got (Stuck why s) next y t e = absurd cc
@@ -87,7 +88,7 @@ pub record Later {A B : Type 0} (r : ReadStep A) (next : A → List Word → Rea
   pub first : r ≡ Got value left
   pub second : next value left ≡ Stuck why t
 
-pub bind_stuck : {A B : Type 0} (r : ReadStep A) (next : A → Reading B) (why : Stop) (t : List Word) → and_then r next ≡ Stuck why t
+pub bind_stuck : {A B : Type 0} (r : ReadStep A) (next : A → Parser B) (why : Stop) (t : List Word) → and_then r next ≡ Stuck why t
     → (r ≡ Stuck why t) ⊎ Later r next why t
 bind_stuck {A} {B} (Got x s) next why t e = inr (record { value = x; left = s; first = refl; second = e })
 bind_stuck {A} {B} (Stuck w s) next why t e = inl (same_stop w why s t e)
@@ -132,7 +133,8 @@ this_parses {n} test = record {
 }
   where
     same_one : (a b s t : List Word) → this test a → this test b → a ++ s ≡ b ++ t → (done ≡ done) × (s ≡ t)
-    same_one a b s t f g e = (refl, (apart_cons f.word g.word s t (ap (λ (ws : List Word). ws ++ s) (sym f.parts) ∙ e ∙ ap (λ (ws : List Word). ws ++ t) g.parts)).1)
+    same_one a b s t f g e =
+        (refl, (apart_cons f.word g.word s t (ap (λ (ws : List Word). ws ++ s) (sym f.parts) ∙ e ∙ ap (λ (ws : List Word). ws ++ t) g.parts)).1)
 
     takes_one : (words : List Word) (x : Unit {0}) (left : List Word)
         → cond (heads test words) (got done (later_words words)) (stuck_at Syntax words) ≡ Got x left
@@ -142,7 +144,14 @@ this_parses {n} test = record {
       where
         taken : (b : Bool) → test w ≡ b → cond b (got done words) (stuck_at Syntax (w ∷ words)) ≡ Got x left
             → (Always x × Always x) × Takes (this test) (w ∷ words) left
-        taken true is e = ((tt, tt), record { text = w ∷ []; parts = ap (λ (ws : List Word). w ∷ ws) (got_is done x words left e).1; form = record { word = w; parts = refl; is = is } })
+        taken true is e = (
+          (tt, tt),
+          record {
+            text = w ∷ [];
+            parts = ap (λ (ws : List Word). w ∷ ws) (got_is done x words left e).1;
+            form = record { word = w; parts = refl; is = is };
+          },
+        )
         taken false is e = absurd cc
 
     stops_one : (words : List Word) (why : Stop) (left : List Word)

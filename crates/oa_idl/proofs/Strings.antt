@@ -3,7 +3,7 @@ use Rattle.std.proofs.Common.{◌≡◌, ℕ, ◌+◌, ◌<◌, ◌≤◌, Bool,
 use Rattle.std.proofs.Common.{sym, ap, ◌∙◌, append_assoc}
 use Rattle.std.specs.Prelude.{◌==◌}
 use Rattle.std.proofs.lemmas.List.{drop_more, drop_all, append-nil}
-use Rattle.oa_idl.specs.Words.{is_printable, is_escaped, with_character, characters_from}
+use Rattle.oa_idl.specs.promise.Words.{is_printable, is_escaped, with_character, characters_from}
 
 -- The characters read so far, and the following ones.
 abbrev pub after_front : List ℕ → Option (List ℕ) → Option (List ℕ)
@@ -20,7 +20,8 @@ pub escape_taken : (front bs : List ℕ) (n : ℕ) (marked : Bool) (total : Opti
     → after_front (front ++ get_or bs n 0 ∷ []) (characters_from false (drop (n + 1) bs)) ≡ total
 unfolding characters_from
 escape_taken front bs n marked total lt on is so_far =
-    let one : characters_from marked (drop n bs) ≡ with_character (get_or bs n 0) (characters_from false (drop (n + 1) bs)) = rw (drop_more bs n 0 lt, on, is) refl in
+    let one : characters_from marked (drop n bs) ≡ with_character (get_or bs n 0) (characters_from false (drop (n + 1) bs)) =
+    rw (drop_more bs n 0 lt, on, is) refl in
     sym (ap (after_front front) one ∙ one_taken front (get_or bs n 0) (characters_from false (drop (n + 1) bs))) ∙ so_far
 
 pub escape_refused : (front bs : List ℕ) (n : ℕ) (marked : Bool) (total : Option (List ℕ)) → n < length bs → marked ≡ true
@@ -53,7 +54,8 @@ pub character_taken : (front bs : List ℕ) (n : ℕ) (marked : Bool) (total : O
     → after_front (front ++ get_or bs n 0 ∷ []) (characters_from false (drop (n + 1) bs)) ≡ total
 unfolding characters_from
 character_taken front bs n marked total lt on quote slash is so_far =
-    let one : characters_from marked (drop n bs) ≡ with_character (get_or bs n 0) (characters_from false (drop (n + 1) bs)) = rw (drop_more bs n 0 lt, on, quote, slash, is) refl in
+    let one : characters_from marked (drop n bs) ≡ with_character (get_or bs n 0) (characters_from false (drop (n + 1) bs)) =
+    rw (drop_more bs n 0 lt, on, quote, slash, is) refl in
     sym (ap (after_front front) one ∙ one_taken front (get_or bs n 0) (characters_from false (drop (n + 1) bs))) ∙ so_far
 
 pub character_refused : (front bs : List ℕ) (n : ℕ) (marked : Bool) (total : Option (List ℕ)) → n < length bs → marked ≡ false

@@ -6,23 +6,25 @@ use Rattle.oa_model.specs.declared.var_type.VarType.{VarType}
 use Rattle.oa_model.specs.declared.var_type.ValueType.{ValueType}
 use Rattle.oa_model.specs.declared.var_type.ValueType.TheVariants as values
 use Rattle.std.specs.Str.{bytes_eq}
-use Rattle.oa_model.specs.Limits.{max_members}
+use Rattle.oa_model.specs.promise.Limits.{max_members}
 use Rattle.oa_idl.specs.declared.stop.TreeLimit.TheVariants as limits
 use Rattle.oa_idl.specs.declared.parts.Version.{Version}
 use Rattle.oa_idl.specs.declared.parts.Property.{Property}
 use Rattle.oa_idl.specs.declared.seen.HeadSeen.{HeadSeen}
 use Rattle.oa_idl.specs.declared.seen.PropertySeen.{PropertySeen}
 use Rattle.oa_idl.specs.declared.seen.PropertyHead.{PropertyHead}
-use Rattle.oa_idl.specs.Forms.{Word, ◌▸◌, one, either_of, where_is}
-use Rattle.oa_idl.specs.Words.{passes, plain_type, is_text, name_of, over, guid_of, part_of, id_of, word_type}
+use Rattle.oa_idl.specs.promise.Forms.{Word, ◌▸◌, one, either_of, where_is}
+use Rattle.oa_idl.specs.promise.Words.{passes, plain_type, is_text, name_of, guid_of, part_of, id_of, word_type}
+use Rattle.oa_idl.specs.Words.{over}
 use Rattle.oa_idl.specs.Reading.{bind, give, heads, done}
-use Rattle.oa_idl.specs.Grammar.{sign, help, HeadAttribute, head_attribute, no_head, head_may, head_grow, head_finish, head, type_word}
-use Rattle.oa_idl.specs.Grammar.{value_type, PropertyAttribute, id_form, numbered, property_attribute, no_property, property_may, property_grow}
-use Rattle.oa_idl.specs.Grammar.{property_finish, property_head, property}
-use Rattle.oa_idl.specs.Grammar.HeadAttribute.{Guid, Numbered, HeadHelp}
-use Rattle.oa_idl.specs.Grammar.PropertyAttribute.{Id, Readonly, PropertyHelp}
-use Rattle.oa_idl.specs.GrammarReading.{sign_at, help_at, minor_at, uuid_at, version_at, head_attribute_at, head_full, head_at}
-use Rattle.oa_idl.specs.GrammarReading.{type_word_at, value_type_at, signed_at, numbered_at, id_at, property_attribute_at, property_full}
+use Rattle.oa_idl.specs.promise.Grammar.{symbol, help, HeadAttribute, head_attribute, no_head, head_may, head_grow}
+use Rattle.oa_idl.specs.promise.Grammar.{head_finish, head, type_word, value_type, PropertyAttribute, id_form, numbered}
+use Rattle.oa_idl.specs.promise.Grammar.{property_attribute, no_property, property_may, property_grow, property_finish}
+use Rattle.oa_idl.specs.promise.Grammar.{property_head, property}
+use Rattle.oa_idl.specs.promise.Grammar.HeadAttribute.{Guid, Numbered, HeadHelp}
+use Rattle.oa_idl.specs.promise.Grammar.PropertyAttribute.{Id, Readonly, PropertyHelp}
+use Rattle.oa_idl.specs.GrammarReading.{symbol_at, help_at, minor_at, uuid_at, version_at, head_attribute_at, head_full, head_at}
+use Rattle.oa_idl.specs.GrammarReading.{type_word_at, value_type_at, signed_number_at, numbered_at, id_at, property_attribute_at, property_full}
 use Rattle.oa_idl.specs.GrammarReading.{property_head_at, property_at}
 use Rattle.oa_idl.proofs.NameLimits.{over_named}
 use Rattle.oa_idl.proofs.Parses.{Parses, Always, NoLimit}
@@ -58,15 +60,19 @@ full_right false b false e = refl
 -- ---- attributes of libraries and items
 
 minor : Bool → ℕ → List Word → Type 0
-minor counts m = either_of (sign (codes ".") ▸ one (part_of counts) m ▸ sign (codes ")")) (where_is (m ≡ 0) (sign (codes ")")))
+minor counts m = either_of (symbol (codes ".") ▸ one (part_of counts) m ▸ symbol (codes ")")) (where_is (m ≡ 0) (symbol (codes ")")))
 
 minor_parses : {n : ℕ} (counts : Bool) → Parses n Always (minor counts) NoLimit Always (minor_at counts)
 unfolding minor_at minor
-minor_parses counts = choose_parses {A = λ m. sign (codes ".") ▸ one (part_of counts) m ▸ sign (codes ")")} {B = λ m ws. (m ≡ 0) × sign (codes ")") ws} (passes (codes "."))
-    (λ m text more _ f is. ⊎_elim (λ (k : (sign (codes ".") ▸ one (part_of counts) m ▸ sign (codes ")")) text). k) (λ (k : where_is (m ≡ 0) (sign (codes ")")) text). absurd (clash is (one_sign_heads (codes ".") (codes ")") refl text more k.1))) f)
-    (λ m text more _ f is. ⊎_elim (λ (k : (sign (codes ".") ▸ one (part_of counts) m ▸ sign (codes ")")) text). absurd (clash (same_heads (codes ".") text more k) is)) (λ (k : where_is (m ≡ 0) (sign (codes ")")) text). k) f)
+minor_parses counts = choose_parses {A = λ m. symbol (codes ".") ▸ one (part_of counts) m ▸ symbol (codes ")")} {B = λ m ws. (m ≡ 0) × symbol (codes ")") ws}
+    (passes (codes "."))
+    (λ m text more _ f is. ⊎_elim (λ (k : (symbol (codes ".") ▸ one (part_of counts) m ▸ symbol (codes ")")) text). k)
+    (λ (k : where_is (m ≡ 0) (symbol (codes ")")) text). absurd (clash is (one_sign_heads (codes ".") (codes ")") refl text more k.1))) f)
+    (λ m text more _ f is. ⊎_elim (λ (k : (symbol (codes ".") ▸ one (part_of counts) m ▸ symbol (codes ")")) text). absurd
+    (clash (same_heads (codes ".") text more k) is)) (λ (k : where_is (m ≡ 0) (symbol (codes ")")) text). k) f)
     (λ m text _ f. inl f) (λ m text _ f. inr f)
-    (skip_parses (passes (codes ".")) (part_parses (λ m. m) (sure_parses (part_of counts)) (λ l m h k. tt) (λ m. end_parses (passes (codes ")")) m (tt, refl) (λ _. tt) (λ c h. h.1))))
+    (skip_parses (passes (codes ".")) (part_parses (λ m. m) (sure_parses (part_of counts)) (λ l m h k. tt)
+    (λ m. end_parses (passes (codes ")")) m (tt, refl) (λ _. tt) (λ c h. h.1))))
     (fact_parses (end_parses (passes (codes ")")) 0 (tt, refl) tt (λ c h. h.1)))
 
 abbrev is_guid : HeadAttribute → Bool
@@ -119,33 +125,42 @@ only_help (Numbered v) is = absurd (clash is refl)
 only_help HeadHelp is = refl
 
 guid_form : HeadAttribute → List Word → Type 0
-guid_form x = sign (codes "uuid") ▸ sign (codes "(") ▸ one guid_of (guid_in x) ▸ sign (codes ")")
+guid_form x = symbol (codes "uuid") ▸ symbol (codes "(") ▸ one guid_of (guid_in x) ▸ symbol (codes ")")
 
 uuid_parses : {n : ℕ} → Parses n Always (λ x ws. (is_guid x ≡ true) × guid_form x ws) NoLimit Always uuid_at
 unfolding uuid_at guid_form
-uuid_parses = fact_parses (skip_parses (passes (codes "uuid")) (skip_parses (passes (codes "(")) (part_parses guid_in (sure_parses guid_of) (λ l x h k. tt) (λ g.
+uuid_parses =
+    fact_parses (skip_parses (passes (codes "uuid")) (skip_parses (passes (codes "(")) (part_parses guid_in (sure_parses guid_of) (λ l x h k. tt) (λ g.
     end_parses (passes (codes ")")) (Guid g) ((tt, refl), refl) (λ _. tt) (λ x h. only_guid g x h.0.1 h.1)))))
 
 version_form : Bool → HeadAttribute → List Word → Type 0
-version_form counts x = sign (codes "version") ▸ sign (codes "(") ▸ one (part_of counts) (major_in x) ▸ minor counts (minor_in x)
+version_form counts x = symbol (codes "version") ▸ symbol (codes "(") ▸ one (part_of counts) (major_in x) ▸ minor counts (minor_in x)
 
 version_parses : {n : ℕ} (counts : Bool)
     → Parses n Always (λ x ws. (is_numbered x ≡ true) × version_form counts x ws) NoLimit Always (version_at counts)
 unfolding version_at version_form version
-version_parses counts = fact_parses (skip_parses (passes (codes "version")) (skip_parses (passes (codes "(")) (part_parses major_in (sure_parses (part_of counts)) (λ l x h k. tt) (λ a.
-    end_part_parses minor_in (λ b. Numbered (version a b)) (minor_parses counts) (λ l x h k. tt) (λ b. (((tt, refl), refl), refl)) (λ b _ _. tt) (λ b x h. only_numbered a b x h.0.0.1 h.0.1 h.1)))))
+version_parses counts =
+    fact_parses (skip_parses (passes (codes "version"))
+    (skip_parses (passes (codes "(")) (part_parses major_in (sure_parses (part_of counts)) (λ l x h k. tt) (λ a.
+    end_part_parses minor_in (λ b. Numbered (version a b)) (minor_parses counts) (λ l x h k. tt) (λ b. (((tt, refl), refl), refl)) (λ b _ _. tt)
+    (λ b x h. only_numbered a b x h.0.0.1 h.0.1 h.1)))))
 
 head_help_parses : {n : ℕ} → Parses n Always (λ x ws. (is_help x ≡ true) × help ws) NoLimit Always (bind help_at (λ _. give HeadHelp))
-head_help_parses = fact_parses (end_part_parses (λ _. done) (λ _. HeadHelp) help_parses (λ l x h k. tt) (λ a. ((tt, refl), refl)) (λ a _. tt) (λ a x h. only_help x h.0.1))
+head_help_parses =
+    fact_parses (end_part_parses (λ _. done) (λ _. HeadHelp) help_parses (λ l x h k. tt) (λ a. ((tt, refl), refl)) (λ a _. tt) (λ a x h. only_help x h.0.1))
 
 head_attribute_parses : {n : ℕ} (counts : Bool) (s : HeadSeen)
     → Parses n Always (λ x ws. (head_may s x ≡ true) × head_attribute counts x ws) NoLimit Always (head_attribute_at counts s)
 unfolding head_attribute_at guid_form version_form minor
-head_attribute_parses counts s = choose_parses {A = λ x ws. (not s.uuid ≡ true) × ((is_guid x ≡ true) × guid_form x ws)} {B = λ x ws. (is_guid x ≡ false) × ((head_may s x ≡ true) × head_attribute counts x ws)} (passes (codes "uuid"))
+head_attribute_parses counts s =
+    choose_parses {A = λ x ws. (not s.uuid ≡ true) × ((is_guid x ≡ true) × guid_form x ws)}
+    {B = λ x ws. (is_guid x ≡ false) × ((head_may s x ≡ true) × head_attribute counts x ws)} (passes (codes "uuid"))
     (λ x text more _ f is. yes x text more f is) (λ x text more _ f is. other x text more f is) (λ x text _ f. from_yes x text f) (λ x text _ f. f.1)
     (require_parses (not s.uuid) uuid_parses)
-    (choose_parses {A = λ x ws. (not s.version ≡ true) × ((is_numbered x ≡ true) × version_form counts x ws)} {B = λ x ws. (not s.help ≡ true) × ((is_help x ≡ true) × help ws)} (passes (codes "version"))
-    (λ x text more _ f is. yes2 x text more f is) (λ x text more _ f is. other2 x text more f is) (λ x text _ f. from_yes2 x text f) (λ x text _ f. from_other2 x text f)
+    (choose_parses {A = λ x ws. (not s.version ≡ true) × ((is_numbered x ≡ true) × version_form counts x ws)}
+    {B = λ x ws. (not s.help ≡ true) × ((is_help x ≡ true) × help ws)} (passes (codes "version"))
+    (λ x text more _ f is. yes2 x text more f is) (λ x text more _ f is. other2 x text more f is) (λ x text _ f. from_yes2 x text f)
+    (λ x text _ f. from_other2 x text f)
     (require_parses (not s.version) (version_parses counts))
     (require_parses (not s.help) head_help_parses))
   where
@@ -206,15 +221,19 @@ head_parses {n} counts = attributes_parses head_grow head_full head_finish (λ n
 
 type_word_parses : {n : ℕ} (in_array : Bool) → Parses n Always (type_word in_array) NoLimit Always (type_word_at in_array)
 unfolding type_word_at plain_type
-type_word_parses in_array = choose_parses {A = λ t. sign (codes "unsigned") ▸ one (word_type in_array true) t} {B = one (word_type in_array false)} (passes (codes "unsigned"))
-    (λ t text more _ f is. ⊎_elim (λ (k : (sign (codes "unsigned") ▸ one (word_type in_array true) t) text). k) (λ (k : one (word_type in_array false) t text). absurd (clash is (plain_heads t text more k))) f)
-    (λ t text more _ f is. ⊎_elim (λ (k : (sign (codes "unsigned") ▸ one (word_type in_array true) t) text). absurd (clash (same_heads (codes "unsigned") text more k) is)) (λ (k : one (word_type in_array false) t text). k) f)
+type_word_parses in_array = choose_parses {A = λ t. symbol (codes "unsigned") ▸ one (word_type in_array true) t} {B = one (word_type in_array false)}
+    (passes (codes "unsigned"))
+    (λ t text more _ f is. ⊎_elim (λ (k : (symbol (codes "unsigned") ▸ one (word_type in_array true) t) text). k)
+    (λ (k : one (word_type in_array false) t text). absurd (clash is (plain_heads t text more k))) f)
+    (λ t text more _ f is. ⊎_elim (λ (k : (symbol (codes "unsigned") ▸ one (word_type in_array true) t) text). absurd
+    (clash (same_heads (codes "unsigned") text more k) is)) (λ (k : one (word_type in_array false) t text). k) f)
     (λ t text _ f. inl f) (λ t text _ f. inr f)
     (skip_parses (passes (codes "unsigned")) (sure_parses (word_type in_array true))) (sure_parses (word_type in_array false))
   where
     plain_heads : (t : VarType) (text more : List Word) → one (word_type in_array false) t text
         → heads (passes (codes "unsigned")) (text ++ more) ≡ false
-    plain_heads t text more k = one_heads (word_type in_array false) (passes (codes "unsigned")) t (λ w e. type_no_sign (codes "unsigned") refl in_array t w e) text more k
+    plain_heads t text more k = one_heads (word_type in_array false) (passes (codes "unsigned")) t (λ w e. type_no_sign (codes "unsigned") refl in_array t w e)
+        text more k
 
 abbrev is_array : ValueType → Bool
 is_array (values.One t) = false
@@ -233,18 +252,25 @@ only_array t (values.One u) is e = absurd (clash is refl)
 only_array t (values.Array u) is e = λ i. values.Array (e i)
 
 array_form : ValueType → List Word → Type 0
-array_form v = sign (codes "SAFEARRAY") ▸ sign (codes "(") ▸ type_word true (cell_of v) ▸ sign (codes ")")
+array_form v = symbol (codes "SAFEARRAY") ▸ symbol (codes "(") ▸ type_word true (cell_of v) ▸ symbol (codes ")")
 
 pub value_type_parses : {n : ℕ} → Parses n Always value_type NoLimit Always value_type_at
 unfolding value_type_at value_type array_form plain_type
-value_type_parses = choose_parses {A = λ v ws. (is_array v ≡ true) × array_form v ws} {B = λ v ws. (is_array v ≡ false) × type_word false (cell_of v) ws} (passes (codes "SAFEARRAY"))
-    (λ v text more _ f is. yes v text more f is) (λ v text more _ f is. other v text more f is) (λ v text _ f. from_yes v text f) (λ v text _ f. from_other v text f)
-    (fact_parses (skip_parses (passes (codes "SAFEARRAY")) (skip_parses (passes (codes "(")) (part_parses cell_of (type_word_parses true) (λ l v h k. tt) (λ t. end_parses (passes (codes ")")) (values.Array t) ((tt, refl), refl) (λ _. tt) (λ v h. only_array t v h.0.1 h.1))))))
-    (fact_parses (end_part_parses cell_of (λ t. values.One t) (type_word_parses false) (λ l v h k. tt) (λ t. ((tt, refl), refl)) (λ t _. tt) (λ t v h. only_one t v h.0.1 h.1)))
+value_type_parses = choose_parses {A = λ v ws. (is_array v ≡ true) × array_form v ws} {B = λ v ws. (is_array v ≡ false) × type_word false (cell_of v) ws}
+    (passes (codes "SAFEARRAY"))
+    (λ v text more _ f is. yes v text more f is) (λ v text more _ f is. other v text more f is) (λ v text _ f. from_yes v text f)
+    (λ v text _ f. from_other v text f)
+    (fact_parses (skip_parses (passes (codes "SAFEARRAY"))
+    (skip_parses (passes (codes "(")) (part_parses cell_of (type_word_parses true) (λ l v h k. tt)
+    (λ t. end_parses (passes (codes ")")) (values.Array t) ((tt, refl), refl) (λ _. tt) (λ v h. only_array t v h.0.1 h.1))))))
+    (fact_parses (end_part_parses cell_of (λ t. values.One t) (type_word_parses false) (λ l v h k. tt) (λ t. ((tt, refl), refl)) (λ t _. tt)
+    (λ t v h. only_one t v h.0.1 h.1)))
   where
     word_heads : (t : VarType) (text more : List Word) → type_word false t text → heads (passes (codes "SAFEARRAY")) (text ++ more) ≡ false
-    word_heads t text more f = ⊎_elim (λ (k : (sign (codes "unsigned") ▸ one (word_type false true) t) text). sign_heads (codes "SAFEARRAY") (codes "unsigned") refl text more k)
-        (λ (k : one (word_type false false) t text). one_heads (word_type false false) (passes (codes "SAFEARRAY")) t (λ w e. type_no_sign (codes "SAFEARRAY") refl false t w e) text more k) f
+    word_heads t text more f =
+        ⊎_elim (λ (k : (symbol (codes "unsigned") ▸ one (word_type false true) t) text). sign_heads (codes "SAFEARRAY") (codes "unsigned") refl text more k)
+        (λ (k : one (word_type false false) t text). one_heads (word_type false false) (passes (codes "SAFEARRAY")) t
+        (λ w e. type_no_sign (codes "SAFEARRAY") refl false t w e) text more k) f
 
     yes : (v : ValueType) (text more : List Word) → value_type v text → heads (passes (codes "SAFEARRAY")) (text ++ more) ≡ true
         → (is_array v ≡ true) × array_form v text
@@ -267,7 +293,8 @@ value_type_parses = choose_parses {A = λ v ws. (is_array v ≡ true) × array_f
 -- a type begins with no other sign
 type_word_heads : (a : List ℕ) → plain_type a ≡ None → bytes_eq (codes "unsigned") a ≡ false
     → (in_array : Bool) (t : VarType) (text more : List Word) → type_word in_array t text → heads (passes a) (text ++ more) ≡ false
-type_word_heads a none ne in_array t text more f = ⊎_elim (λ (k : (sign (codes "unsigned") ▸ one (word_type in_array true) t) text). sign_heads a (codes "unsigned") ne text more k)
+type_word_heads a none ne in_array t text more f =
+    ⊎_elim (λ (k : (symbol (codes "unsigned") ▸ one (word_type in_array true) t) text). sign_heads a (codes "unsigned") ne text more k)
     (λ (k : one (word_type in_array false) t text). one_heads (word_type in_array false) (passes a) t (λ w e. type_no_sign a none in_array t w e) text more k) f
 
 pub value_type_heads : (a : List ℕ) → plain_type a ≡ None → bytes_eq (codes "unsigned") a ≡ false → bytes_eq (codes "SAFEARRAY") a ≡ false
@@ -277,7 +304,8 @@ value_type_heads a none ne other (values.One t) text more f = type_word_heads a 
 value_type_heads a none ne other (values.Array t) text more f = sign_heads a (codes "SAFEARRAY") other text more f
 
 type_word_some : (in_array : Bool) (t : VarType) (text : List Word) → type_word in_array t text → 0 < length text
-type_word_some in_array t text f = ⊎_elim (λ (k : (sign (codes "unsigned") ▸ one (word_type in_array true) t) text). this_some text k) (λ (k : one (word_type in_array false) t text). omega (arith, ap length k.parts)) f
+type_word_some in_array t text f = ⊎_elim (λ (k : (symbol (codes "unsigned") ▸ one (word_type in_array true) t) text). this_some text k)
+    (λ (k : one (word_type in_array false) t text). omega (arith, ap length k.parts)) f
 
 pub value_type_some : (v : ValueType) (text : List Word) → value_type v text → 0 < length text
 unfolding value_type
@@ -286,11 +314,13 @@ value_type_some (values.Array t) text f = this_some text f
 
 -- ---- properties
 
-pub signed_parses : {n : ℕ} → Parses n Always id_form NoLimit Always signed_at
-unfolding signed_at
-signed_parses = choose_parses {A = λ i. sign (codes "-") ▸ one (id_of true) i} {B = one (id_of false)} (passes (codes "-"))
-    (λ i text more _ f is. ⊎_elim (λ (k : (sign (codes "-") ▸ one (id_of true) i) text). k) (λ (k : one (id_of false) i text). absurd (clash is (plain_heads i text more k))) f)
-    (λ i text more _ f is. ⊎_elim (λ (k : (sign (codes "-") ▸ one (id_of true) i) text). absurd (clash (same_heads (codes "-") text more k) is)) (λ (k : one (id_of false) i text). k) f)
+pub signed_parses : {n : ℕ} → Parses n Always id_form NoLimit Always signed_number_at
+unfolding signed_number_at
+signed_parses = choose_parses {A = λ i. symbol (codes "-") ▸ one (id_of true) i} {B = one (id_of false)} (passes (codes "-"))
+    (λ i text more _ f is. ⊎_elim (λ (k : (symbol (codes "-") ▸ one (id_of true) i) text). k)
+    (λ (k : one (id_of false) i text). absurd (clash is (plain_heads i text more k))) f)
+    (λ i text more _ f is. ⊎_elim (λ (k : (symbol (codes "-") ▸ one (id_of true) i) text). absurd (clash (same_heads (codes "-") text more k) is))
+    (λ (k : one (id_of false) i text). k) f)
     (λ i text _ f. inl f) (λ i text _ f. inr f)
     (skip_parses (passes (codes "-")) (sure_parses (id_of true))) (sure_parses (id_of false))
   where
@@ -334,28 +364,35 @@ only_property_help PropertyHelp is = refl
 
 pub numbered_parses : {n : ℕ} → Parses n Always numbered NoLimit Always numbered_at
 unfolding numbered_at
-numbered_parses = skip_parses (passes (codes "id")) (skip_parses (passes (codes "(")) (part_parses (λ i. i) signed_parses (λ l i h k. tt) (λ i. end_parses (passes (codes ")")) i (tt, refl) (λ _. tt) (λ c h. h.1))))
+numbered_parses =
+    skip_parses (passes (codes "id")) (skip_parses (passes (codes "("))
+    (part_parses (λ i. i) signed_parses (λ l i h k. tt) (λ i. end_parses (passes (codes ")")) i (tt, refl) (λ _. tt) (λ c h. h.1))))
 
 id_parses : {n : ℕ} → Parses n Always (λ x ws. (is_id x ≡ true) × numbered (id_in x) ws) NoLimit Always id_at
 unfolding id_at
 id_parses = fact_parses (end_part_parses id_in Id numbered_parses (λ l x h k. tt) (λ i. ((tt, refl), refl)) (λ i _. tt) (λ i x h. only_id i x h.0.1 h.1))
 
 readonly_parses : {n : ℕ} → Parses n Always (λ x ws. (is_readonly x ≡ true)
-    × sign (codes "readonly") ws) NoLimit Always (bind (sign_at (codes "readonly")) (λ _. give Readonly))
+    × symbol (codes "readonly") ws) NoLimit Always (bind (symbol_at (codes "readonly")) (λ _. give Readonly))
 readonly_parses = fact_parses (end_parses (passes (codes "readonly")) Readonly (tt, refl) tt (λ x h. only_readonly x h.1))
 
 property_help_parses : {n : ℕ} → Parses n Always (λ x ws. (is_property_help x ≡ true)
     × help ws) NoLimit Always (bind help_at (λ _. give PropertyHelp))
-property_help_parses = fact_parses (end_part_parses (λ _. done) (λ _. PropertyHelp) help_parses (λ l x h k. tt) (λ a. ((tt, refl), refl)) (λ a _. tt) (λ a x h. only_property_help x h.0.1))
+property_help_parses =
+    fact_parses (end_part_parses (λ _. done) (λ _. PropertyHelp) help_parses (λ l x h k. tt) (λ a. ((tt, refl), refl)) (λ a _. tt)
+    (λ a x h. only_property_help x h.0.1))
 
 property_attribute_parses : {n : ℕ} (s : PropertySeen)
     → Parses n Always (λ x ws. (property_may s x ≡ true) × property_attribute x ws) NoLimit Always (property_attribute_at s)
 unfolding property_attribute_at
-property_attribute_parses s = choose_parses {A = λ x ws. (not (is_some s.id) ≡ true) × ((is_id x ≡ true) × numbered (id_in x) ws)} {B = λ x ws. (is_id x ≡ false) × ((property_may s x ≡ true) × property_attribute x ws)} (passes (codes "id"))
+property_attribute_parses s = choose_parses {A = λ x ws. (not (is_some s.id) ≡ true) × ((is_id x ≡ true) × numbered (id_in x) ws)}
+    {B = λ x ws. (is_id x ≡ false) × ((property_may s x ≡ true) × property_attribute x ws)} (passes (codes "id"))
     (λ x text more _ f is. yes x text more f is) (λ x text more _ f is. other x text more f is) (λ x text _ f. from_yes x text f) (λ x text _ f. f.1)
     (require_parses (not (is_some s.id)) id_parses)
-    (choose_parses {A = λ x ws. (not s.readonly ≡ true) × ((is_readonly x ≡ true) × sign (codes "readonly") ws)} {B = λ x ws. (not s.help ≡ true) × ((is_property_help x ≡ true) × help ws)} (passes (codes "readonly"))
-    (λ x text more _ f is. yes2 x text more f is) (λ x text more _ f is. other2 x text more f is) (λ x text _ f. from_yes2 x text f) (λ x text _ f. from_other2 x text f)
+    (choose_parses {A = λ x ws. (not s.readonly ≡ true) × ((is_readonly x ≡ true) × symbol (codes "readonly") ws)}
+    {B = λ x ws. (not s.help ≡ true) × ((is_property_help x ≡ true) × help ws)} (passes (codes "readonly"))
+    (λ x text more _ f is. yes2 x text more f is) (λ x text more _ f is. other2 x text more f is) (λ x text _ f. from_yes2 x text f)
+    (λ x text _ f. from_other2 x text f)
     (require_parses (not s.readonly) readonly_parses)
     (require_parses (not s.help) property_help_parses))
   where
@@ -379,7 +416,7 @@ property_attribute_parses s = choose_parses {A = λ x ws. (not (is_some s.id) �
 
     yes2 : (x : PropertyAttribute) (text more : List Word) → (is_id x ≡ false) × ((property_may s x ≡ true) × property_attribute x text)
         → heads (passes (codes "readonly")) (text ++ more) ≡ true
-        → (not s.readonly ≡ true) × ((is_readonly x ≡ true) × sign (codes "readonly") text)
+        → (not s.readonly ≡ true) × ((is_readonly x ≡ true) × symbol (codes "readonly") text)
     yes2 (Id i) text more f is = absurd (clash refl f.0)
     yes2 Readonly text more f is = (f.1.0, (refl, f.1.1))
     yes2 PropertyHelp text more f is = absurd (clash is (sign_heads (codes "readonly") (codes "helpstring") refl text more f.1.1))
@@ -391,7 +428,7 @@ property_attribute_parses s = choose_parses {A = λ x ws. (not (is_some s.id) �
     other2 PropertyHelp text more f is = (f.1.0, (refl, f.1.1))
 
     from_yes2 : (x : PropertyAttribute) (text : List Word)
-        → (not s.readonly ≡ true) × ((is_readonly x ≡ true) × sign (codes "readonly") text)
+        → (not s.readonly ≡ true) × ((is_readonly x ≡ true) × symbol (codes "readonly") text)
         → (is_id x ≡ false) × ((property_may s x ≡ true) × property_attribute x text)
     from_yes2 (Id i) text f = absurd (clash f.1.0 refl)
     from_yes2 Readonly text f = (refl, (f.0, f.1.1))
@@ -422,5 +459,7 @@ pub property_parses : {n : ℕ} (count : ℕ) → Parses n Always property (λ l
     (λ p. over limits.Members max_members count p.name ≡ None) (property_at count)
 unfolding property_at property_with marks
 property_parses count = part_parses marks property_head_parses (λ l p h k. tt) (λ h. part_parses (λ p. p.value_type) value_type_parses (λ l p h k. tt) (λ t.
-    part_parses (λ p. p.name) (one_parses name_of (over limits.Members max_members count) (over_named limits.Members max_members count (λ k. absurd cc))) (λ l p h k. k) (λ name. skip_parses (passes (codes ";"))
-    (give_parses (property_with h.id h.readonly t name) (((tt, refl), refl), refl) (λ kept _ _. kept) (λ p k. λ i. record { id = (k.0.0.1 i).id; readonly = (k.0.0.1 i).readonly; value_type = k.0.1 i; name = k.1 i })))))
+    part_parses (λ p. p.name) (one_parses name_of (over limits.Members max_members count) (over_named limits.Members max_members count (λ k. absurd cc)))
+    (λ l p h k. k) (λ name. skip_parses (passes (codes ";"))
+    (give_parses (property_with h.id h.readonly t name) (((tt, refl), refl), refl) (λ kept _ _. kept)
+    (λ p k. λ i. record { id = (k.0.0.1 i).id; readonly = (k.0.0.1 i).readonly; value_type = k.0.1 i; name = k.1 i })))))

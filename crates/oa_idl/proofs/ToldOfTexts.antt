@@ -6,8 +6,8 @@ use Rattle.oa_idl.specs.declared.stop.Stop.{Stop}
 use Rattle.oa_idl.specs.declared.stop.Stop.TheVariants.{Syntax, Memory}
 use Rattle.oa_idl.specs.declared.stop.Stop.TheVariants as stops
 use Rattle.oa_idl.specs.declared.stop.ParseError.{ParseError}
-use Rattle.oa_idl.specs.Trees.{TreeValue}
-use Rattle.oa_idl.specs.Forms.{Word}
+use Rattle.oa_idl.specs.promise.Trees.{TreeValue}
+use Rattle.oa_idl.specs.promise.Forms.{Word}
 use Rattle.oa_idl.specs.Reading.{ReadsWords}
 use Rattle.oa_idl.specs.GrammarReading.{library_at}
 use Rattle.oa_idl.specs.TextLimits.{error_of}
@@ -28,4 +28,5 @@ pub parsed : (end place : ℕ) (tokens : List Token) (words left : List Word) (r
     → MatchResult read (λ t. result ≡ Ok t) (λ stop. IsErrAnd result (error stop)) → IsParsed end tokens words result
 parsed end place tokens words left (Ok t) error result is at given cases = subst (IsParsed end tokens words) (sym cases) (left, given)
 parsed end place tokens words left (Err stop) error (Ok t) is at given cases = absurd cases
-parsed end place tokens words left (Err stop) error (Err e) is at given cases = subst (λ (f : ParseError). IsParsed end tokens words (Err f)) (sym (is stop e cases)) (stop_told end place tokens words left stop at given)
+parsed end place tokens words left (Err stop) error (Err e) is at given cases = subst (λ (f : ParseError). IsParsed end tokens words (Err f))
+    (sym (is stop e cases)) (stop_told end place tokens words left stop at given)

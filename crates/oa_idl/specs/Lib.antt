@@ -1,13 +1,9 @@
 pub mod Forms
-pub mod Grammar
 pub mod GrammarReading
 pub mod IsTree
-pub mod Limits
-pub mod MethodValues
 pub mod NextWords
 pub mod Parsed
 pub mod Reading
 pub mod TextLimits
-pub mod Trees
-pub mod Values
 pub mod Words
+pub mod promise

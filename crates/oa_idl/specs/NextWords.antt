@@ -3,8 +3,8 @@ use Rattle.std.specs.Prelude.{ℕ, if◌then◌else◌, List, [], ◌∷◌, Opt
 use Rattle.std.specs.Borrow.{Bor}
 use Rattle.oa_tokens.specs.declared.lexer.TokenKind.{TokenKind}
 use Rattle.oa_idl.specs.declared.stop.Stop.{Stop}
-use Rattle.oa_idl.specs.Forms.{Word}
-use Rattle.oa_idl.specs.Words.{same_kind}
+use Rattle.oa_idl.specs.promise.Forms.{Word}
+use Rattle.oa_idl.specs.promise.Words.{same_kind}
 
 -- The bytes of the next word, if it has this kind.
 abbrev pub token_text : TokenKind → List Word → Option (List ℕ)

@@ -2,20 +2,20 @@
 ghost use Rattle.std.specs.Prelude.{codes};
 ghost use Rattle.oa_idl.specs.declared.seen.HeadSeen.{HeadSeen};
 ghost use Rattle.oa_idl.specs.declared.seen.PropertySeen.{PropertySeen};
-ghost use Rattle.oa_idl.specs.Words.{passes};
+ghost use Rattle.oa_idl.specs.promise.Words.{passes};
 ghost use Rattle.oa_idl.specs.Reading.{ReadsWords, done, gather};
-ghost use Rattle.oa_idl.specs.Grammar.{head_grow, head_finish, property_grow, property_finish};
-ghost use Rattle.oa_idl.specs.Grammar.HeadAttribute.{Guid, Numbered};
+ghost use Rattle.oa_idl.specs.promise.Grammar.{head_grow, head_finish, property_grow, property_finish};
+ghost use Rattle.oa_idl.specs.promise.Grammar.HeadAttribute.{Guid, Numbered};
 ghost use Rattle.oa_idl.specs.GrammarReading.{grown_at, next_grown_at, last_at, help_at, minor_at, head_attribute_at, head_full, head_at};
-ghost use Rattle.oa_idl.specs.GrammarReading.{uuid_at, version_at, signed_at, numbered_at, property_attribute_at, property_full, property_head_at};
+ghost use Rattle.oa_idl.specs.GrammarReading.{uuid_at, version_at, signed_number_at, numbered_at, property_attribute_at, property_full, property_head_at};
 
 use crate::parts::Version;
 use crate::reader::Reader;
-use crate::seen::{Head, HeadSeen, PropertyHead, PropertySeen};
+use crate::seen::{HeadSeen, HeadValues, PropertyHead, PropertySeen};
 use crate::stop::Stop;
 use uuid::Uuid;
 
-/// Reads a `helpstring` attribute and drops its text.
+/// Reads a `helpstring` attribute and drops its text. Err: `Syntax`.
 #[tactic(auto, unfolding(crate::proofs::OnReadings::combinators, crate::specs::GrammarReading::help_at))]
 pub(crate) fn help(r: &mut Reader<'_>) -> Result<(), Stop>
     ensures { ReadsWords (λ _. done) result r.new (help_at r.old) }
@@ -28,7 +28,8 @@ pub(crate) fn help(r: &mut Reader<'_>) -> Result<(), Stop>
 
 // ---- of a library or an item
 
-/// Reads the second part of a version, which is 0 if it is missing, and the closing bracket.
+/// Reads the second part of a version, which is 0 if it is missing, and the closing bracket. Err:
+/// `Syntax`.
 #[tactic(auto, unfolding(crate::proofs::OnReadings::combinators, crate::specs::GrammarReading::minor_at))]
 fn minor(r: &mut Reader<'_>, counts: bool) -> Result<u16, Stop>
     ensures { ReadsWords (λ n. n) result r.new (minor_at counts r.old) }
@@ -43,7 +44,7 @@ fn minor(r: &mut Reader<'_>, counts: bool) -> Result<u16, Stop>
     Ok(0)
 }
 
-/// Reads a `uuid` attribute.
+/// Reads a `uuid` attribute. Err: `Syntax`.
 #[tactic(auto, unfolding(crate::proofs::OnReadings::combinators, crate::specs::GrammarReading::uuid_at))]
 fn uuid(r: &mut Reader<'_>) -> Result<Uuid, Stop>
     ensures { ReadsWords (λ g. Guid g) result r.new (uuid_at r.old) }
@@ -55,7 +56,8 @@ fn uuid(r: &mut Reader<'_>) -> Result<Uuid, Stop>
     Ok(guid)
 }
 
-/// Reads a `version` attribute. If `counts` is false, any numbers are allowed and read as 0.
+/// Reads a `version` attribute. If `counts` is false, any numbers are allowed and read as 0. Err:
+/// `Syntax`.
 #[tactic(auto, unfolding(crate::proofs::OnReadings::combinators, crate::specs::GrammarReading::version_at))]
 fn version(r: &mut Reader<'_>, counts: bool) -> Result<Version, Stop>
     ensures { ReadsWords (λ v. Numbered v) result r.new (version_at counts r.old) }
@@ -67,7 +69,7 @@ fn version(r: &mut Reader<'_>, counts: bool) -> Result<Version, Stop>
     Ok(Version { major, minor })
 }
 
-/// Reads an attribute that has not been read before, and adds it to `seen`.
+/// Reads an attribute that has not been read before, and adds it to `seen`. Err: `Syntax`.
 #[tactic(auto, unfolding(crate::proofs::OnReadings::combinators, crate::specs::GrammarReading::head_attribute_at))]
 fn head_attribute(r: &mut Reader<'_>, counts: bool, seen: HeadSeen) -> Result<HeadSeen, Stop>
     ensures { ReadsWords (λ s. s) result r.new (grown_at (head_attribute_at counts) head_grow seen r.old) }
@@ -79,7 +81,7 @@ fn head_attribute(r: &mut Reader<'_>, counts: bool, seen: HeadSeen) -> Result<He
         let guid = uuid(r)?;
         return Ok(HeadSeen {
             uuid: true,
-            head: Head { guid, ..seen.head },
+            head: HeadValues { guid, ..seen.head },
             ..seen
         });
     }
@@ -90,7 +92,7 @@ fn head_attribute(r: &mut Reader<'_>, counts: bool, seen: HeadSeen) -> Result<He
         let version = version(r, counts)?;
         return Ok(HeadSeen {
             version: true,
-            head: Head {
+            head: HeadValues {
                 version,
                 ..seen.head
             },
@@ -104,7 +106,7 @@ fn head_attribute(r: &mut Reader<'_>, counts: bool, seen: HeadSeen) -> Result<He
     Ok(HeadSeen { help: true, ..seen })
 }
 
-/// Reads a comma and the next attribute.
+/// Reads a comma and the next attribute. Err: `Syntax`.
 #[tactic(auto, unfolding(crate::proofs::OnReadings::combinators))]
 fn next_head_attribute(r: &mut Reader<'_>, counts: bool, seen: HeadSeen) -> Result<HeadSeen, Stop>
     ensures { ReadsWords (λ s. s) result r.new (next_grown_at (head_attribute_at counts) head_grow head_full seen r.old) }
@@ -116,9 +118,9 @@ fn next_head_attribute(r: &mut Reader<'_>, counts: bool, seen: HeadSeen) -> Resu
     head_attribute(r, counts, seen)
 }
 
-/// Reads the bracket that closes the list. There must be a `uuid`.
+/// Reads the bracket that closes the list. There must be a `uuid`. Err: `Syntax`.
 #[tactic(auto, unfolding(crate::proofs::OnReadings::combinators))]
-fn last_head_attribute(r: &mut Reader<'_>, seen: HeadSeen) -> Result<Head, Stop>
+fn last_head_attribute(r: &mut Reader<'_>, seen: HeadSeen) -> Result<HeadValues, Stop>
     ensures { ReadsWords (λ h. h) result r.new (last_at head_finish seen r.old) }
 {
     if !seen.uuid {
@@ -128,14 +130,15 @@ fn last_head_attribute(r: &mut Reader<'_>, seen: HeadSeen) -> Result<Head, Stop>
     Ok(seen.head)
 }
 
-/// Reads at most `room - 1` further attributes, and the bracket that closes the list.
+/// Reads at most `room - 1` further attributes, and the bracket that closes the list. Err:
+/// `Syntax`.
 #[tactic(auto, unfolding(crate::proofs::OnReadings::round), using(crate::proofs::Loop::gathering))]
 fn more_head_attributes(
     r: &mut Reader<'_>,
     counts: bool,
     seen: HeadSeen,
     room: usize,
-) -> Result<Head, Stop>
+) -> Result<HeadValues, Stop>
     ensures { ReadsWords (λ h. h) result r.new (gather (passes (codes "]")) (next_grown_at (head_attribute_at counts) head_grow head_full)
         (last_at head_finish) room seen r.old) }
 {
@@ -149,9 +152,10 @@ fn more_head_attributes(
     more_head_attributes(r, counts, next, room - 1)
 }
 
-/// Reads the attributes of a library, whose version counts, or of an item, whose version is ignored.
+/// Reads the attributes of a library, whose version counts, or of an item, whose version is
+/// ignored. Err: `Syntax`.
 #[tactic(auto, unfolding(crate::proofs::OnReadings::combinators, crate::specs::GrammarReading::head_at))]
-pub(crate) fn head(r: &mut Reader<'_>, counts: bool) -> Result<Head, Stop>
+pub(crate) fn head(r: &mut Reader<'_>, counts: bool) -> Result<HeadValues, Stop>
     ensures { ReadsWords (λ h. h) result r.new (head_at counts r.old) }
 {
     r.take(b"[")?;
@@ -162,7 +166,7 @@ pub(crate) fn head(r: &mut Reader<'_>, counts: bool) -> Result<Head, Stop>
             uuid: false,
             version: false,
             help: false,
-            head: Head {
+            head: HeadValues {
                 guid: Uuid::nil(),
                 version: Version { major: 0, minor: 0 },
             },
@@ -174,10 +178,10 @@ pub(crate) fn head(r: &mut Reader<'_>, counts: bool) -> Result<Head, Stop>
 
 // ---- of a property
 
-/// Reads the number of an `id` with its sign.
-#[tactic(auto, unfolding(crate::proofs::OnReadings::combinators, crate::specs::GrammarReading::signed_at))]
+/// Reads the number of an `id` with its sign. Err: `Syntax`.
+#[tactic(auto, unfolding(crate::proofs::OnReadings::combinators, crate::specs::GrammarReading::signed_number_at))]
 fn signed(r: &mut Reader<'_>) -> Result<i32, Stop>
-    ensures { ReadsWords (λ i. i) result r.new (signed_at r.old) }
+    ensures { ReadsWords (λ i. i) result r.new (signed_number_at r.old) }
 {
     if r.is(b"-") {
         r.take(b"-")?;
@@ -186,7 +190,7 @@ fn signed(r: &mut Reader<'_>) -> Result<i32, Stop>
     r.id(false)
 }
 
-/// Reads an `id` attribute.
+/// Reads an `id` attribute, and returns its DISPID. Err: `Syntax`.
 #[tactic(auto, unfolding(crate::proofs::OnReadings::combinators, crate::specs::GrammarReading::numbered_at))]
 pub(crate) fn numbered(r: &mut Reader<'_>) -> Result<i32, Stop>
     ensures { ReadsWords (λ i. i) result r.new (numbered_at r.old) }
@@ -198,7 +202,7 @@ pub(crate) fn numbered(r: &mut Reader<'_>) -> Result<i32, Stop>
     Ok(id)
 }
 
-/// Reads an attribute that has not been read before, and adds it to `seen`.
+/// Reads an attribute that has not been read before, and adds it to `seen`. Err: `Syntax`.
 #[tactic(auto, unfolding(crate::proofs::OnReadings::combinators, crate::specs::GrammarReading::id_at, crate::specs::GrammarReading::property_attribute_at))]
 fn property_attribute(r: &mut Reader<'_>, seen: PropertySeen) -> Result<PropertySeen, Stop>
     ensures { ReadsWords (λ s. s) result r.new (grown_at property_attribute_at property_grow seen r.old) }
@@ -230,7 +234,7 @@ fn property_attribute(r: &mut Reader<'_>, seen: PropertySeen) -> Result<Property
     Ok(PropertySeen { help: true, ..seen })
 }
 
-/// Reads a comma and the next attribute.
+/// Reads a comma and the next attribute. Err: `Syntax`.
 #[tactic(auto, unfolding(crate::proofs::OnReadings::combinators))]
 fn next_property_attribute(r: &mut Reader<'_>, seen: PropertySeen) -> Result<PropertySeen, Stop>
     ensures { ReadsWords (λ s. s) result r.new (next_grown_at property_attribute_at property_grow property_full seen r.old) }
@@ -242,7 +246,7 @@ fn next_property_attribute(r: &mut Reader<'_>, seen: PropertySeen) -> Result<Pro
     property_attribute(r, seen)
 }
 
-/// Reads the bracket that closes the list. There must be an `id`.
+/// Reads the bracket that closes the list. There must be an `id`. Err: `Syntax`.
 #[tactic(auto, unfolding(crate::proofs::OnReadings::combinators))]
 fn last_property_attribute(r: &mut Reader<'_>, seen: PropertySeen) -> Result<PropertyHead, Stop>
     ensures { ReadsWords (λ h. h) result r.new (last_at property_finish seen r.old) }
@@ -257,7 +261,8 @@ fn last_property_attribute(r: &mut Reader<'_>, seen: PropertySeen) -> Result<Pro
     })
 }
 
-/// Reads at most `room - 1` further attributes, and the bracket that closes the list.
+/// Reads at most `room - 1` further attributes, and the bracket that closes the list. Err:
+/// `Syntax`.
 #[tactic(auto, unfolding(crate::proofs::OnReadings::round), using(crate::proofs::Loop::gathering))]
 fn more_property_attributes(
     r: &mut Reader<'_>,
@@ -277,7 +282,7 @@ fn more_property_attributes(
     more_property_attributes(r, next, room - 1)
 }
 
-/// Reads the attributes of a property.
+/// Reads the attributes of a property. Err: `Syntax`.
 #[tactic(auto, unfolding(crate::proofs::OnReadings::combinators, crate::specs::GrammarReading::property_head_at))]
 pub(crate) fn property_head(r: &mut Reader<'_>) -> Result<PropertyHead, Stop>
     ensures { ReadsWords (λ h. h) result r.new (property_head_at r.old) }

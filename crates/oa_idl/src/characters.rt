@@ -3,8 +3,8 @@ ghost use Rattle.std.specs.Prelude.{◌≡◌};
 
 use std::marker::Model;
 
-/// The characters of a default string, without its quotes and escapes. In a tree that was parsed, these are the ASCII characters from the
-/// space to the tilde.
+/// The characters of a default string, without its quotes and escapes. In a tree that was parsed,
+/// these are the ASCII characters from the space to the tilde.
 #[derive(Drop)]
 pub struct Characters {
     bytes: Vec<u8>,

@@ -19,7 +19,7 @@ pub struct Interface {
 }
 
 impl Model for Interface {
-    ghost use Rattle.oa_idl.specs.Values.{InterfaceValue};
+    ghost use Rattle.oa_idl.specs.promise.Values.{InterfaceValue};
 
     ghost Value = { InterfaceValue };
 
@@ -38,7 +38,7 @@ pub struct Coclass {
 }
 
 impl Model for Coclass {
-    ghost use Rattle.oa_idl.specs.Values.{CoclassValue};
+    ghost use Rattle.oa_idl.specs.promise.Values.{CoclassValue};
 
     ghost Value = { CoclassValue };
 

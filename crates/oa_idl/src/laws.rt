@@ -1,7 +1,7 @@
 //! Theorems about the definitions alone.
 ghost use Rattle.std.specs.Prelude.{◌≡◌, ℕ, List};
-ghost use Rattle.oa_idl.specs.Trees.{TreeValue};
-ghost use Rattle.oa_idl.specs.IsTree.{IsTree};
+ghost use Rattle.oa_idl.specs.promise.Trees.{TreeValue};
+ghost use Rattle.oa_idl.specs.promise.IsTree.{IsTree};
 
 /// A text has at most one tree.
 pub fn one_tree()

@@ -20,7 +20,7 @@ pub struct Method {
 }
 
 impl Model for Method {
-    ghost use Rattle.oa_idl.specs.MethodValues.{MethodValue};
+    ghost use Rattle.oa_idl.specs.promise.MethodValues.{MethodValue};
 
     ghost Value = { MethodValue };
 

@@ -1,10 +1,11 @@
 //! Parses the section `methods:`.
 ghost use Rattle.std.specs.Prelude.{◌≡◌, ◌<◌, IfOk, codes};
-ghost use Rattle.oa_model.specs.Limits.{max_members};
-ghost use Rattle.oa_idl.specs.Forms.{nowhere};
-ghost use Rattle.oa_idl.specs.Words.{passes};
+ghost use Rattle.oa_model.specs.promise.Limits.{max_members};
+ghost use Rattle.oa_idl.specs.promise.Forms.{nowhere};
+ghost use Rattle.oa_idl.specs.promise.Words.{passes};
 ghost use Rattle.oa_idl.specs.Reading.{ReadsWords, done, gather, until};
-ghost use Rattle.oa_idl.specs.Grammar.{one_more, is_form, method_grow, method_finish, may_be_void, may_have_type};
+ghost use Rattle.oa_idl.specs.promise.Grammar.{one_more, is_form, method_grow, method_finish, may_be_void};
+ghost use Rattle.oa_idl.specs.promise.Grammar.{may_have_type};
 ghost use Rattle.oa_idl.specs.GrammarReading.{grown_at, next_grown_at, last_at, method_attribute_at, method_full};
 ghost use Rattle.oa_idl.specs.GrammarReading.{method_head_at, result_type_at, method_body_at, method_at, closing_at, methods_at};
 
@@ -29,7 +30,8 @@ fn is_form(kind: MethodKind) -> bool
     }
 }
 
-/// Reads an attribute that has not been read before, and adds it to `seen`. `propget` and `propput` exclude each other.
+/// Reads an attribute that has not been read before, and adds it to `seen`. `propget` and `propput`
+/// exclude each other. Err: `Syntax`.
 #[tactic(auto, unfolding(crate::proofs::OnReadings::combinators, crate::specs::GrammarReading::method_attribute_at))]
 fn method_attribute(r: &mut Reader<'_>, seen: MethodSeen) -> Result<MethodSeen, Stop>
     ensures { ReadsWords (λ s. s) result r.new (grown_at method_attribute_at method_grow seen r.old) }
@@ -71,7 +73,7 @@ fn method_attribute(r: &mut Reader<'_>, seen: MethodSeen) -> Result<MethodSeen, 
     Ok(MethodSeen { help: true, ..seen })
 }
 
-/// Reads a comma and the next attribute.
+/// Reads a comma and the next attribute. Err: `Syntax`.
 #[tactic(auto, unfolding(crate::proofs::OnReadings::combinators))]
 fn next_method_attribute(r: &mut Reader<'_>, seen: MethodSeen) -> Result<MethodSeen, Stop>
     ensures { ReadsWords (λ s. s) result r.new (next_grown_at method_attribute_at method_grow method_full seen r.old) }
@@ -83,7 +85,7 @@ fn next_method_attribute(r: &mut Reader<'_>, seen: MethodSeen) -> Result<MethodS
     method_attribute(r, seen)
 }
 
-/// Reads the bracket that closes the list. There must be an `id`.
+/// Reads the bracket that closes the list. There must be an `id`. Err: `Syntax`.
 #[tactic(auto, unfolding(crate::proofs::OnReadings::combinators))]
 fn last_method_attribute(r: &mut Reader<'_>, seen: MethodSeen) -> Result<MethodHead, Stop>
     ensures { ReadsWords (λ h. h) result r.new (last_at method_finish seen r.old) }
@@ -98,7 +100,8 @@ fn last_method_attribute(r: &mut Reader<'_>, seen: MethodSeen) -> Result<MethodH
     })
 }
 
-/// Reads at most `room - 1` further attributes, and the bracket that closes the list.
+/// Reads at most `room - 1` further attributes, and the bracket that closes the list. Err:
+/// `Syntax`.
 #[tactic(auto, unfolding(crate::proofs::OnReadings::round), using(crate::proofs::Loop::gathering))]
 fn more_method_attributes(
     r: &mut Reader<'_>,
@@ -118,7 +121,7 @@ fn more_method_attributes(
     more_method_attributes(r, next, room - 1)
 }
 
-/// Reads the attributes of a method.
+/// Reads the attributes of a method. Err: `Syntax`.
 #[tactic(auto, unfolding(crate::proofs::OnReadings::combinators, crate::specs::GrammarReading::method_head_at))]
 fn method_head(r: &mut Reader<'_>) -> Result<MethodHead, Stop>
     ensures { ReadsWords (λ h. h) result r.new (method_head_at r.old) }
@@ -156,7 +159,8 @@ fn may_have_type(kind: MethodKind) -> bool
     }
 }
 
-/// Reads the type of a result, None for `void`.
+/// Reads the type of a result; None for `void`. Err: `Syntax`, also if a member of this kind has no
+/// such result.
 #[tactic(auto, unfolding(crate::proofs::OnReadings::combinators, crate::specs::GrammarReading::result_type_at))]
 fn result_type(r: &mut Reader<'_>, kind: MethodKind) -> Result<Option<ValueType>, Stop>
     ensures { ReadsWords (λ t. t) result r.new (result_type_at kind r.old) }
@@ -175,7 +179,8 @@ fn result_type(r: &mut Reader<'_>, kind: MethodKind) -> Result<Option<ValueType>
     Ok(Some(found))
 }
 
-/// Reads what follows the attributes of a method, after `count` members of its interface.
+/// Reads the part of a method after its attributes. `count` is the number of members before it in
+/// its interface. Err: `Syntax`, `Limit`, `Memory`.
 #[tactic(auto, unfolding(crate::proofs::OnReadings::combinators, crate::specs::GrammarReading::parameters_at, crate::specs::GrammarReading::method_body_at))]
 fn method_body(
     alloc: Global,
@@ -201,7 +206,8 @@ fn method_body(
     })
 }
 
-/// Reads a method, after `count` members of its interface.
+/// Reads a method. `count` is the number of members before it in its interface. Err: `Syntax`,
+/// `Limit`, `Memory`.
 #[tactic(auto, unfolding(crate::proofs::OnReadings::combinators, crate::specs::GrammarReading::method_at))]
 fn method(alloc: Global, r: &mut Reader<'_>, count: usize) -> Result<Method, Stop>
     ensures value { ReadsWords (λ m. m) result r.new (method_at count r.old) }
@@ -211,7 +217,8 @@ fn method(alloc: Global, r: &mut Reader<'_>, count: usize) -> Result<Method, Sto
     method_body(alloc, r, count, head)
 }
 
-/// Reads fewer than `room` methods, after `before` members, and the brace that closes them.
+/// Reads fewer than `room` methods, after `before` members, and the brace that closes them. Err:
+/// `Syntax`, `Limit`, `Memory`.
 #[tactic(auto, using(crate::proofs::Loop::until_err, crate::proofs::Loop::until_out))]
 fn method_list(
     alloc: Global,
@@ -236,7 +243,8 @@ fn method_list(
     Err(Stop::Syntax)
 }
 
-/// Reads the section, after `before` members, and the brace that closes the interface. The section may be missing.
+/// Reads the section of methods, which may be missing, and the brace that closes the interface.
+/// `before` is the number of members before it. Err: `Syntax`, `Limit`, `Memory`.
 #[tactic(auto, unfolding(crate::proofs::OnReadings::combinators, crate::specs::GrammarReading::methods_at))]
 pub(crate) fn methods(alloc: Global, r: &mut Reader<'_>, before: usize) -> Result<Vec<Method>, Stop>
     ensures { ReadsWords (λ v. v.items) result r.new (methods_at before r.old) }

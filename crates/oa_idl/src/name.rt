@@ -3,8 +3,8 @@ ghost use Rattle.std.specs.Prelude.{◌≡◌};
 
 use std::marker::Model;
 
-/// A name, spelled as in the text. In a tree that was parsed it has 1 to 64 bytes: an ASCII letter or `_`, followed by letters, digits and
-/// `_`.
+/// A name, spelled as in the text. In a tree that was parsed it has 1 to 64 bytes: an ASCII letter
+/// or `_`, followed by letters, digits and `_`.
 #[derive(Drop)]
 pub struct Name {
     bytes: Vec<u8>,

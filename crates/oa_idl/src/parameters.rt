@@ -1,10 +1,10 @@
 //! Parses the parameters of a member.
 ghost use Rattle.std.specs.Prelude.{◌≡◌, ◌<◌, IfOk, codes};
-ghost use Rattle.oa_model.specs.Limits.{max_parameters};
-ghost use Rattle.oa_idl.specs.Forms.{nowhere};
-ghost use Rattle.oa_idl.specs.Words.{passes};
+ghost use Rattle.oa_model.specs.promise.Limits.{max_parameters};
+ghost use Rattle.oa_idl.specs.promise.Forms.{nowhere};
+ghost use Rattle.oa_idl.specs.promise.Words.{passes};
 ghost use Rattle.oa_idl.specs.Reading.{ReadsWords, done, gather, until};
-ghost use Rattle.oa_idl.specs.Grammar.{one_more, no_parameter, parameter_grow, parameter_finish, may_end};
+ghost use Rattle.oa_idl.specs.promise.Grammar.{one_more, no_parameter, parameter_grow, parameter_finish, may_end};
 ghost use Rattle.oa_idl.specs.GrammarReading.{grown_at, next_grown_at, last_at, amount_at, literal_at, default_at, parameter_attribute_at};
 ghost use Rattle.oa_idl.specs.GrammarReading.{parameter_full, parameter_head_at, typed_at, parameter_at, next_parameter_at};
 ghost use Rattle.oa_idl.specs.GrammarReading.{last_parameter_at};
@@ -17,7 +17,7 @@ use crate::stop::{Stop, TreeLimit};
 use oa_model::MAX_PARAMETERS;
 use std::alloc::Global;
 
-/// Reads the number of a default with its sign.
+/// Reads the number of a default with its sign. Err: `Syntax`.
 #[tactic(auto, unfolding(crate::proofs::OnReadings::combinators, crate::specs::GrammarReading::amount_at))]
 fn amount(r: &mut Reader<'_>) -> Result<i128, Stop>
     ensures { ReadsWords (λ n. n) result r.new (amount_at r.old) }
@@ -29,7 +29,7 @@ fn amount(r: &mut Reader<'_>) -> Result<i128, Stop>
     r.amount(false)
 }
 
-/// Reads the value of a default: `TRUE`, `FALSE`, a string or a number.
+/// Reads the value of a default: `TRUE`, `FALSE`, a string or a number. Err: `Syntax`, `Memory`.
 #[tactic(auto, unfolding(crate::proofs::OnReadings::combinators, crate::specs::GrammarReading::literal_at))]
 fn literal(alloc: Global, r: &mut Reader<'_>) -> Result<Literal, Stop>
     ensures { ReadsWords (λ v. v) result r.new (literal_at r.old) }
@@ -50,7 +50,7 @@ fn literal(alloc: Global, r: &mut Reader<'_>) -> Result<Literal, Stop>
     Ok(Literal::Number(number))
 }
 
-/// Reads a `defaultvalue` attribute and returns its value.
+/// Reads a `defaultvalue` attribute and returns its value. Err: `Syntax`, `Memory`.
 #[tactic(auto, unfolding(crate::proofs::OnReadings::combinators, crate::specs::GrammarReading::default_at))]
 fn default(alloc: Global, r: &mut Reader<'_>) -> Result<Literal, Stop>
     ensures { ReadsWords (λ v. v) result r.new (default_at r.old) }
@@ -62,7 +62,8 @@ fn default(alloc: Global, r: &mut Reader<'_>) -> Result<Literal, Stop>
     Ok(value)
 }
 
-/// Reads an attribute that has not been read before, and adds it to `seen`.
+/// Reads an attribute that has not been read before, and adds it to `seen`. Err: `Syntax`,
+/// `Memory`.
 #[tactic(auto, unfolding(crate::proofs::OnReadings::combinators, crate::specs::GrammarReading::parameter_attribute_at))]
 fn parameter_attribute(
     alloc: Global,
@@ -102,7 +103,7 @@ fn parameter_attribute(
     })
 }
 
-/// Reads a comma and the next attribute.
+/// Reads a comma and the next attribute. Err: `Syntax`, `Memory`.
 #[tactic(auto, unfolding(crate::proofs::OnReadings::combinators))]
 fn next_parameter_attribute(
     alloc: Global,
@@ -118,7 +119,7 @@ fn next_parameter_attribute(
     parameter_attribute(alloc, r, seen)
 }
 
-/// Reads the bracket that closes the list. No attribute is required.
+/// Reads the bracket that closes the list. No attribute is required. Err: `Syntax`.
 #[tactic(auto, unfolding(crate::proofs::OnReadings::combinators))]
 fn last_parameter_attribute(r: &mut Reader<'_>, seen: ParameterSeen) -> Result<ParameterSeen, Stop>
     ensures { ReadsWords (λ h. h) result r.new (last_at parameter_finish seen r.old) }
@@ -127,7 +128,8 @@ fn last_parameter_attribute(r: &mut Reader<'_>, seen: ParameterSeen) -> Result<P
     Ok(seen)
 }
 
-/// Reads at most `room - 1` further attributes, and the bracket that closes the list.
+/// Reads at most `room - 1` further attributes, and the bracket that closes the list. Err:
+/// `Syntax`, `Memory`.
 #[tactic(auto, unfolding(crate::proofs::OnReadings::round), using(crate::proofs::Loop::gathering))]
 fn more_parameter_attributes(
     alloc: Global,
@@ -159,7 +161,7 @@ fn no_parameter() -> ParameterSeen
     }
 }
 
-/// Reads the attributes of a parameter.
+/// Reads the attributes of a parameter. Err: `Syntax`, `Memory`.
 #[tactic(auto, unfolding(crate::proofs::OnReadings::combinators, crate::specs::GrammarReading::parameter_head_at))]
 fn parameter_head(alloc: Global, r: &mut Reader<'_>) -> Result<ParameterSeen, Stop>
     ensures { ReadsWords (λ h. h) result r.new (parameter_head_at r.old) }
@@ -170,7 +172,7 @@ fn parameter_head(alloc: Global, r: &mut Reader<'_>) -> Result<ParameterSeen, St
     more_parameter_attributes(alloc, r, first, room)
 }
 
-/// Reads the type and name of a parameter, after `count` others.
+/// Reads the type and name of a parameter, after `count` others. Err: `Syntax`, `Limit`, `Memory`.
 #[tactic(auto, unfolding(crate::proofs::OnReadings::combinators, crate::specs::GrammarReading::typed_at))]
 fn typed(
     alloc: Global,
@@ -192,7 +194,7 @@ fn typed(
     })
 }
 
-/// Reads a parameter, after `count` others.
+/// Reads a parameter, after `count` others. Err: `Syntax`, `Limit`, `Memory`.
 #[tactic(auto, unfolding(crate::proofs::OnReadings::combinators, crate::specs::GrammarReading::parameter_at))]
 fn parameter(alloc: Global, r: &mut Reader<'_>, count: usize) -> Result<Parameter, Stop>
     ensures value { ReadsWords (λ p. p) result r.new (parameter_at count r.old) }
@@ -205,7 +207,8 @@ fn parameter(alloc: Global, r: &mut Reader<'_>, count: usize) -> Result<Paramete
     typed(alloc, r, count, no_parameter())
 }
 
-/// Reads a parameter after `count` others, with the comma before it unless it is the first.
+/// Reads a parameter after `count` others, with the comma before it unless it is the first. Err:
+/// `Syntax`, `Limit`, `Memory`.
 #[tactic(auto, unfolding(crate::proofs::OnReadings::combinators, crate::specs::GrammarReading::separated_at))]
 fn next_parameter(alloc: Global, r: &mut Reader<'_>, count: usize) -> Result<Parameter, Stop>
     ensures value { ReadsWords (λ p. p) result r.new (next_parameter_at count r.old) }
@@ -228,7 +231,8 @@ fn may_end(kind: MethodKind, count: usize) -> bool
     }
 }
 
-/// Reads fewer than `room` parameters, and the bracket that closes them.
+/// Reads fewer than `room` parameters of a member of this kind, and the bracket that closes them.
+/// Err: `Syntax`, also for a put without parameters; `Limit`; `Memory`.
 #[tactic(auto, using(crate::proofs::Loop::until_err, crate::proofs::Loop::until_out))]
 pub(crate) fn parameters(
     alloc: Global,

@@ -1,15 +1,16 @@
 //! Parses a library text.
 ghost use Rattle.std.specs.Prelude.{◌≡◌, ◌-◌, ◌+◌, ◌<◌, ◌^◌, length, map, IfOk, codes};
-ghost use Rattle.oa_model.specs.Limits.{max_members};
-ghost use Rattle.oa_idl.specs.Forms.{nowhere};
-ghost use Rattle.oa_idl.specs.Words.{word_of, passes};
+ghost use Rattle.oa_model.specs.promise.Limits.{max_members};
+ghost use Rattle.oa_idl.specs.promise.Forms.{nowhere};
+ghost use Rattle.oa_idl.specs.promise.Words.{word_of, passes};
 ghost use Rattle.oa_idl.specs.Reading.{ReadsWords, done, heads, until};
-ghost use Rattle.oa_idl.specs.IsTree.{IsTree, AnswersText, AnswersTree, place_after};
-ghost use Rattle.oa_idl.specs.Grammar.{one_more, entry_grow, no_entry, items_grow};
+ghost use Rattle.oa_idl.specs.promise.IsTree.{IsTree};
+ghost use Rattle.oa_idl.specs.IsTree.{AnswersText, AnswersTree, place_after};
+ghost use Rattle.oa_idl.specs.promise.Grammar.{one_more, entry_grow, no_entry, items_grow};
 ghost use Rattle.oa_idl.specs.GrammarReading.{type_word_at, value_type_at, property_at, methods_at, ends_properties, members_at};
-ghost use Rattle.oa_idl.specs.GrammarReading.{interface_at, named_at, entry_at, last_entry_at, coclass_at, import_at, item_at};
+ghost use Rattle.oa_idl.specs.GrammarReading.{interface_at, named_entry_at, entry_at, last_entry_at, coclass_at, import_at, item_at};
 ghost use Rattle.oa_idl.specs.GrammarReading.{elements_within, library_at};
-ghost use Rattle.oa_idl.specs.Trees.{TreeValue};
+ghost use Rattle.oa_idl.specs.promise.Trees.{TreeValue};
 ghost use Rattle.oa_idl.specs.Parsed.{IsParsed};
 
 use crate::attributes::{head, property_head};
@@ -26,7 +27,8 @@ use oa_tokens::{Token, TokenKind, tokens};
 use std::alloc::Global;
 use uuid::Uuid;
 
-/// Reads the name of a scalar type.
+/// Reads the name of a scalar type; `in_array` is whether it is the type of an array's elements.
+/// Err: `Syntax`.
 #[tactic(auto, unfolding(crate::proofs::OnReadings::combinators, crate::specs::GrammarReading::type_word_at))]
 fn type_word(r: &mut Reader<'_>, in_array: bool) -> Result<VarType, Stop>
     ensures { ReadsWords (λ t. t) result r.new (type_word_at in_array r.old) }
@@ -38,7 +40,7 @@ fn type_word(r: &mut Reader<'_>, in_array: bool) -> Result<VarType, Stop>
     r.type_word(in_array, false)
 }
 
-/// Reads a type: a scalar type, or `SAFEARRAY` with the type of its elements.
+/// Reads a type: a scalar type, or `SAFEARRAY` with the type of its elements. Err: `Syntax`.
 #[tactic(auto, unfolding(crate::proofs::OnReadings::combinators, crate::specs::GrammarReading::value_type_at))]
 pub(crate) fn value_type(r: &mut Reader<'_>) -> Result<ValueType, Stop>
     ensures { ReadsWords (λ t. t) result r.new (value_type_at r.old) }
@@ -54,7 +56,8 @@ pub(crate) fn value_type(r: &mut Reader<'_>) -> Result<ValueType, Stop>
     Ok(ValueType::One(one))
 }
 
-/// Reads a property, after `count` members of its interface.
+/// Reads a property. `count` is the number of members before it in its interface. Err: `Syntax`,
+/// `Limit`, `Memory`.
 #[tactic(auto, unfolding(crate::proofs::OnReadings::combinators, crate::specs::GrammarReading::property_at))]
 fn property(alloc: Global, r: &mut Reader<'_>, count: usize) -> Result<Property, Stop>
     ensures value { ReadsWords (λ p. p) result r.new (property_at count r.old) }
@@ -80,7 +83,8 @@ fn ends_section(r: &Reader<'_>) -> bool
     r.is(b"methods") || r.is(b"}")
 }
 
-/// Reads fewer than `room` properties, and what follows them: the section of methods, or the closing brace.
+/// Reads fewer than `room` properties, and then the section of methods and the closing brace. Err:
+/// `Syntax`, `Limit`, `Memory`.
 #[tactic(auto, using(crate::proofs::Loop::properties_err, crate::proofs::Loop::properties_end_err))]
 fn properties(
     alloc: Global,
@@ -104,7 +108,7 @@ fn properties(
     Err(Stop::Syntax)
 }
 
-/// Reads both sections of members, and the closing brace.
+/// Reads both sections of members, and the closing brace. Err: `Syntax`, `Limit`, `Memory`.
 #[tactic(auto, unfolding(crate::proofs::OnReadings::combinators, crate::specs::GrammarReading::members_at))]
 fn members(alloc: Global, r: &mut Reader<'_>) -> Result<(Vec<Property>, Vec<Method>), Stop>
     ensures { ReadsWords (λ v. (v.0.items, v.1.items)) result r.new (members_at r.old) }
@@ -119,7 +123,8 @@ fn members(alloc: Global, r: &mut Reader<'_>) -> Result<(Vec<Property>, Vec<Meth
     Ok((Vec::new(alloc), methods))
 }
 
-/// Reads an interface, after its attributes.
+/// Reads an interface, after its attributes. `seen` are the numbers of items before it. Err:
+/// `Syntax`, `Limit`, `Memory`.
 #[tactic(auto, unfolding(crate::proofs::OnReadings::combinators, crate::specs::GrammarReading::interface_at))]
 fn interface(alloc: Global, r: &mut Reader<'_>, seen: ItemsSeen, guid: Uuid) -> Result<Item, Stop>
     ensures { ReadsWords (λ x. x) result r.new (interface_at seen guid r.old) }
@@ -141,10 +146,10 @@ fn interface(alloc: Global, r: &mut Reader<'_>, seen: ItemsSeen, guid: Uuid) -> 
     }))
 }
 
-/// Reads an entry, after its `[default]`.
-#[tactic(auto, unfolding(crate::proofs::OnReadings::combinators, crate::specs::GrammarReading::named_at))]
+/// Reads an entry, after its `[default]`. Err: `Syntax`, `Limit`, `Memory`.
+#[tactic(auto, unfolding(crate::proofs::OnReadings::combinators, crate::specs::GrammarReading::named_entry_at))]
 fn named(alloc: Global, r: &mut Reader<'_>, is_default: bool) -> Result<Entry, Stop>
-    ensures { ReadsWords (λ e. e) result r.new (named_at is_default r.old) }
+    ensures { ReadsWords (λ e. e) result r.new (named_entry_at is_default r.old) }
 {
     r.entry_word()?;
     let interface = r.name(alloc, TreeLimit::Name, 1, 0)?;
@@ -155,7 +160,8 @@ fn named(alloc: Global, r: &mut Reader<'_>, is_default: bool) -> Result<Entry, S
     })
 }
 
-/// Reads an entry of a coclass. At most one entry is marked as the default.
+/// Reads an entry of a coclass. At most one entry is marked as the default. Err: `Syntax`, `Limit`,
+/// `Memory`.
 #[tactic(auto, unfolding(crate::proofs::OnReadings::combinators, crate::specs::GrammarReading::entry_at))]
 fn entry(alloc: Global, r: &mut Reader<'_>, seen: EntriesSeen) -> Result<Entry, Stop>
     ensures { ReadsWords (λ e. e) result r.new (entry_at seen r.old) }
@@ -182,7 +188,8 @@ fn with_entry(seen: EntriesSeen, entry: &Entry) -> EntriesSeen
     }
 }
 
-/// Reads fewer than `room` entries, at least one, and the brace that closes them.
+/// Reads fewer than `room` entries, at least one, and the brace that closes them. Err: `Syntax`,
+/// `Limit`, `Memory`.
 #[tactic(auto, using(crate::proofs::Loop::until_err, crate::proofs::Loop::until_out))]
 fn entries(alloc: Global, r: &mut Reader<'_>, room: usize) -> Result<Vec<Entry>, Stop>
     ensures { ReadsWords (λ v. (v.items, done)) result r.new
@@ -208,7 +215,8 @@ fn entries(alloc: Global, r: &mut Reader<'_>, room: usize) -> Result<Vec<Entry>,
     Err(Stop::Syntax)
 }
 
-/// Reads a coclass, after its attributes.
+/// Reads a coclass, after its attributes. `seen` are the numbers of items before it. Err: `Syntax`,
+/// `Limit`, `Memory`.
 #[tactic(auto, unfolding(crate::proofs::OnReadings::combinators, crate::specs::GrammarReading::entries_at, crate::specs::GrammarReading::coclass_at))]
 fn coclass(alloc: Global, r: &mut Reader<'_>, seen: ItemsSeen, guid: Uuid) -> Result<Item, Stop>
     ensures { ReadsWords (λ x. x) result r.new (coclass_at seen guid r.old) }
@@ -225,7 +233,8 @@ fn coclass(alloc: Global, r: &mut Reader<'_>, seen: ItemsSeen, guid: Uuid) -> Re
     }))
 }
 
-/// Reads an interface or a coclass.
+/// Reads an interface or a coclass. `seen` are the numbers of items before it. Err: `Syntax`,
+/// `Limit`, `Memory`.
 #[tactic(auto, unfolding(crate::proofs::OnReadings::combinators, crate::specs::GrammarReading::item_at))]
 fn item(alloc: Global, r: &mut Reader<'_>, seen: ItemsSeen) -> Result<Item, Stop>
     ensures { ReadsWords (λ x. x) result r.new (item_at seen r.old) }
@@ -254,7 +263,7 @@ fn counted(seen: ItemsSeen, item: &Item) -> ItemsSeen
     }
 }
 
-/// Reads an `importlib`, which is ignored.
+/// Reads an `importlib`, which is ignored. Err: `Syntax`.
 #[tactic(auto, unfolding(crate::proofs::OnReadings::combinators, crate::specs::GrammarReading::import_at))]
 fn import(r: &mut Reader<'_>) -> Result<(), Stop>
     ensures { ReadsWords (λ _. done) result r.new (import_at r.old) }
@@ -267,6 +276,7 @@ fn import(r: &mut Reader<'_>) -> Result<(), Stop>
 }
 
 /// Reads fewer than `room` imports and items, and the brace that closes them; returns the items.
+/// Err: `Syntax`, `Limit`, `Memory`.
 fn items(alloc: Global, r: &mut Reader<'_>, room: usize) -> Result<Vec<Item>, Stop>
     ensures { ReadsWords (λ v. v.items) result r.new (elements_within room r.old) }
 {
@@ -292,7 +302,7 @@ fn items(alloc: Global, r: &mut Reader<'_>, room: usize) -> Result<Vec<Item>, St
     Err(Stop::Syntax)
 }
 
-/// Reads a whole text.
+/// Reads a whole text. Err: `Syntax`, `Limit`, `Memory`.
 #[tactic(auto, unfolding(crate::proofs::OnReadings::combinators, crate::specs::GrammarReading::elements_at, crate::specs::GrammarReading::library_at))]
 fn library(alloc: Global, r: &mut Reader<'_>) -> Result<Tree, Stop>
     ensures { ReadsWords (λ t. t) result r.new (library_at r.old) }
@@ -313,7 +323,7 @@ fn library(alloc: Global, r: &mut Reader<'_>) -> Result<Tree, Stop>
     })
 }
 
-/// Returns the offset of the first of the last `left` tokens, or `end` if there are none.
+/// Returns the byte at which the first of the last `left` tokens begins; `end` if there are none.
 fn place_of_rest(end: usize, tokens: &[Token], left: usize) -> usize
     ensures { result ≡ place_after end tokens.now (length tokens.now - left) }
 {
@@ -324,7 +334,8 @@ fn place_of_rest(end: usize, tokens: &[Token], left: usize) -> usize
     }
 }
 
-/// Parses the words of the tokens, of which the last is the end of the text.
+/// Parses the words of the tokens, of which the last is the end of the text. Errors are those of
+/// `parse` except `Limit(Text)`.
 fn parse_words(alloc: Global, text: &[u8], words: &[Token]) -> Result<Tree, ParseError>
     ensures { IsParsed (length text.now) words.now (map (word_of text.now) words.now) result }
 {
@@ -336,14 +347,16 @@ fn parse_words(alloc: Global, text: &[u8], words: &[Token]) -> Result<Tree, Pars
 
 /// Parses a library text (docs/reference/idl.md).
 ///
-/// `Ok` with the one tree of the text, if and only if the text is in the grammar and memory suffices.
+/// `Ok` with the one tree of the text, if and only if the text is in the grammar and memory
+/// suffices.
 ///
 /// Errors:
 /// - `Limit(Text)`: the text has more than 262,144 bytes.
-/// - `Syntax(place)`: the token that begins at this byte is not allowed there, or the text must not end there. No text of the grammar
-///   begins with the tokens up to and including this one.
-/// - Another `Limit`: a name is too long, or it is that of an interface, coclass, member or parameter above the limit. No text of the
-///   grammar that keeps the limit begins with the tokens up to and including this name.
+/// - `Syntax(place)`: the token that begins at this byte is not allowed there, or the text must not
+///   end there. No text of the grammar begins with the tokens up to and including this one.
+/// - Another `Limit`: a name is too long, or it is that of an interface, coclass, member or
+///   parameter above the limit. No text of the grammar that keeps the limit begins with the tokens
+///   up to and including this name.
 /// - `Memory`: an allocation fails.
 pub fn parse(alloc: Global, text: &str) -> Result<Tree, ParseError>
     ensures exact { AnswersText text.now result }

@@ -1,10 +1,12 @@
 //! Reads the words of a text one after another.
 ghost use Rattle.std.specs.Prelude.{◌≡◌, ◌-◌, ◌+◌, ◌*◌, ◌<◌, ◌^◌, ◌&&◌, if◌then◌else◌, length, take, drop, map, false, IfOk, IfErr, IfSome};
-ghost use Rattle.oa_idl.specs.Words.{word_of, passes, is_text, name_of, over, guid_of, digit_of, number_from, number_of};
-ghost use Rattle.oa_idl.specs.Words.{is_hexadecimal, below, part_from, part_of, id_number, id_from, id_of, word_type, same_kind};
-ghost use Rattle.oa_idl.specs.Words.{never_over, amount_from, amount_of, is_printable, is_escaped, characters_from, characters_of};
-ghost use Rattle.oa_idl.specs.Grammar.{entry_word};
-ghost use Rattle.oa_idl.specs.Reading.{ReadsWords, heads, later_words, this_at, one_at, if_meant, done, seen_first, first_of};
+ghost use Rattle.oa_idl.specs.promise.Words.{word_of, passes, is_text, name_of, guid_of, digit_of, number_from};
+ghost use Rattle.oa_idl.specs.promise.Words.{number_of, is_hexadecimal, below, part_from, part_of, id_number, id_from};
+ghost use Rattle.oa_idl.specs.promise.Words.{id_of, word_type, same_kind, amount_from, amount_of, is_printable};
+ghost use Rattle.oa_idl.specs.promise.Words.{is_escaped, characters_from, characters_of};
+ghost use Rattle.oa_idl.specs.Words.{over, never_over};
+ghost use Rattle.oa_idl.specs.promise.Grammar.{entry_word};
+ghost use Rattle.oa_idl.specs.Reading.{ReadsWords, heads, later_words, this_at, one_at, if_meant, done, seen_first, first_word};
 ghost use Rattle.oa_idl.specs.NextWords.{token_text, seen_text};
 ghost use Rattle.oa_idl.specs.declared.stop.Stop.TheVariants.{Syntax};
 ghost use Rattle.uuid.specs.Text.{parsed_hyphenated};
@@ -33,8 +35,8 @@ pub(crate) struct Reader<'a> {
 
 impl<'a> Model for Reader<'a> {
     ghost use Rattle.std.specs.Prelude.{List, map};
-    ghost use Rattle.oa_idl.specs.Forms.{Word};
-    ghost use Rattle.oa_idl.specs.Words.{word_of};
+    ghost use Rattle.oa_idl.specs.promise.Forms.{Word};
+    ghost use Rattle.oa_idl.specs.promise.Words.{word_of};
 
     ghost Value = { List Word };
 
@@ -71,8 +73,8 @@ fn digit_of(byte: u8) -> u8
     }
 }
 
-/// Returns the number with these digits, if it is below 2^96.
-#[tactic(auto, unfolding(crate::specs::Words::number_from), using(crate::proofs::Digits::digit_steps))]
+/// Returns the number with these digits; None if it is not below 2^96.
+#[tactic(auto, unfolding(crate::specs::promise::Words::number_from), using(crate::proofs::Digits::digit_steps))]
 fn digits(hexadecimal: bool, text: &[u8]) -> Option<u128>
     ensures small { IfSome result (λ n. n < 2 ^ 96) }
     ensures value { result ≡ below (2 ^ 96) (number_from (if hexadecimal then 16 else 10) 0 text.now) }
@@ -98,8 +100,8 @@ fn is_hexadecimal(text: &[u8]) -> bool
     1 < text.len() && text[0] == b'0' && text[1] == b'x'
 }
 
-/// Returns the value of a number, if it is below 2^96.
-#[tactic(auto, unfolding(crate::specs::Words::number_of))]
+/// Returns the value of a number; None if it is not below 2^96.
+#[tactic(auto, unfolding(crate::specs::promise::Words::number_of))]
 fn number_of(text: &[u8]) -> Option<u128>
     ensures value { result ≡ number_of text.now }
     ensures small { IfSome result (λ n. n < 2 ^ 96) }
@@ -110,7 +112,8 @@ fn number_of(text: &[u8]) -> Option<u128>
     digits(false, text)
 }
 
-/// Returns a part of a version: at most 65,535 if it counts, otherwise 0 for any number.
+/// Returns a part of a version: 0 for any number if it does not count. None if it counts and is
+/// above 65,535.
 fn part_from(counts: bool, number: Option<u128>) -> Option<u16>
     ensures { result ≡ part_from counts number }
 {
@@ -120,7 +123,8 @@ fn part_from(counts: bool, number: Option<u128>) -> Option<u16>
     u16::try_from(number?).ok()
 }
 
-/// Returns the number as an i32 with the sign `negative`. A hexadecimal number without a sign is read as two's complement.
+/// Returns the number as an i32 with the sign `negative`; None if it does not fit. A hexadecimal
+/// number without a sign is read as two's complement.
 fn id_number(negative: bool, hexadecimal: bool, value: u128) -> Option<i32>
     ensures { result ≡ id_number negative hexadecimal value }
 {
@@ -134,7 +138,7 @@ fn id_number(negative: bool, hexadecimal: bool, value: u128) -> Option<i32>
     i32::try_from(value).ok()
 }
 
-/// Returns the DISPID with this number. -1 and -3 are not allowed.
+/// Returns the DISPID with this number; None if it does not fit an i32, or is -1 or -3.
 fn id_from(negative: bool, hexadecimal: bool, number: Option<u128>) -> Option<i32>
     ensures { result ≡ id_from negative hexadecimal number }
 {
@@ -146,7 +150,7 @@ fn id_from(negative: bool, hexadecimal: bool, number: Option<u128>) -> Option<i3
     }
 }
 
-/// Returns the number of a default with its sign.
+/// Returns the number of a default with its sign; None if there is no number.
 fn amount_from(negative: bool, number: Option<u128>) -> Option<i128>
     requires { IfSome number (λ n. n < 2 ^ 96) }
     ensures { result ≡ amount_from negative number }
@@ -171,7 +175,8 @@ fn is_escaped(byte: u8) -> bool
     byte == b'"' || byte == b'\\'
 }
 
-/// Returns the characters up to the quote that closes a string; None if one of them is not allowed, or if there is no such quote.
+/// Returns the characters up to the quote that closes a string; None if one of them is not allowed,
+/// or if there is no such quote. Err: an allocation fails.
 #[tactic(auto, using(crate::proofs::Strings::character_steps))]
 fn characters(alloc: Global, text: &[u8]) -> Result<Option<Characters>, AllocError>
     ensures { IfOk result (λ found. found ≡ characters_from false text.now) }
@@ -205,7 +210,7 @@ fn characters(alloc: Global, text: &[u8]) -> Result<Option<Characters>, AllocErr
     Ok(None)
 }
 
-/// Returns the bytes after the quote with which a string begins.
+/// Returns the bytes after the quote at the beginning of a string.
 fn behind_quote(text: &[u8]) -> &[u8]
     ensures { result.now ≡ drop 1 text.now }
 {
@@ -215,7 +220,7 @@ fn behind_quote(text: &[u8]) -> &[u8]
     }
 }
 
-/// Parses a GUID of the form 8-4-4-4-12.
+/// Parses a GUID of the form 8-4-4-4-12; None if the text has another form.
 fn guid_of(text: &[u8]) -> Option<Uuid>
     ensures { result ≡ parsed_hyphenated text.now }
 {
@@ -240,9 +245,9 @@ impl<'a> Reader<'a> {
         self.rest.len()
     }
 
-    /// Returns the kind of the next word and its bytes.
+    /// Returns the kind of the next word and its bytes; None if no word is left.
     fn first(&self) -> Option<(TokenKind, &'a [u8])>
-        ensures { seen_first result ≡ first_of self.now }
+        ensures { seen_first result ≡ first_word self.now }
     {
         if self.rest.is_empty() {
             return None;
@@ -262,7 +267,7 @@ impl<'a> Reader<'a> {
         }
     }
 
-    /// Skips the next word and returns its meaning; `Syntax` if it has none.
+    /// Skips the next word and returns its meaning. Err: `Syntax` if it has none.
     fn taken<T>(&mut self, meant: Option<T>) -> Result<T, Stop>
         ensures { ReadsWords (λ x. x) result self.new (if_meant meant never_over self.old) }
     {
@@ -284,7 +289,7 @@ impl<'a> Reader<'a> {
     }
 
     /// Returns whether the next word is this keyword or mark.
-    #[tactic(auto, unfolding(crate::specs::Words::passes))]
+    #[tactic(auto, unfolding(crate::specs::promise::Words::passes))]
     pub(crate) fn is(&self, sign: &[u8]) -> bool
         ensures { result ≡ heads (passes sign.now) self.now }
     {
@@ -294,7 +299,7 @@ impl<'a> Reader<'a> {
         }
     }
 
-    /// Reads this keyword or mark.
+    /// Reads this keyword or mark. Err: `Syntax` if the next word is another one.
     #[tactic(auto, unfolding(crate::specs::Reading::this_at))]
     pub(crate) fn take(&mut self, sign: &[u8]) -> Result<(), Stop>
         ensures { ReadsWords (λ _. done) result self.new (this_at (passes sign.now) self.old) }
@@ -306,8 +311,8 @@ impl<'a> Reader<'a> {
         Ok(())
     }
 
-    /// Reads `dispinterface` or `interface`.
-    #[tactic(auto, unfolding(crate::specs::Reading::this_at, crate::specs::Words::passes))]
+    /// Reads `dispinterface` or `interface`. Err: `Syntax` if the next word is another one.
+    #[tactic(auto, unfolding(crate::specs::Reading::this_at, crate::specs::promise::Words::passes))]
     pub(crate) fn entry_word(&mut self) -> Result<(), Stop>
         ensures { ReadsWords (λ _. done) result self.new (this_at entry_word self.old) }
     {
@@ -319,8 +324,8 @@ impl<'a> Reader<'a> {
         Ok(())
     }
 
-    /// Reads a string and drops it.
-    #[tactic(auto, unfolding(crate::specs::Reading::this_at, crate::specs::Words::is_text))]
+    /// Reads a string and drops it. Err: `Syntax` if the next word is no string.
+    #[tactic(auto, unfolding(crate::specs::Reading::this_at, crate::specs::promise::Words::is_text))]
     pub(crate) fn text(&mut self) -> Result<(), Stop>
         ensures { ReadsWords (λ _. done) result self.new (this_at is_text self.old) }
     {
@@ -339,9 +344,10 @@ impl<'a> Reader<'a> {
         }
     }
 
-    /// Reads a name, that of an item after `count` others. Err: `Limit(Name)` if the name is too long, `Limit(limit)` if `count` is `bound`
-    /// or more.
-    #[tactic(auto, unfolding(crate::specs::Reading::one_at, crate::specs::Words::name_of))]
+    /// Reads a name, that of an item after `count` others. Err: `Syntax` if the next word is no
+    /// name or a keyword; `Limit(Name)` if the name is too long; `Limit(limit)` if `count` is
+    /// `bound` or more; `Memory`.
+    #[tactic(auto, unfolding(crate::specs::Reading::one_at, crate::specs::promise::Words::name_of))]
     pub(crate) fn name(
         &mut self,
         alloc: Global,
@@ -367,8 +373,8 @@ impl<'a> Reader<'a> {
         Ok(Name::from_bytes(bytes))
     }
 
-    /// Reads a GUID.
-    #[tactic(auto, unfolding(crate::specs::Reading::one_at, crate::specs::Words::guid_of))]
+    /// Reads a GUID. Err: `Syntax` if the next word is none.
+    #[tactic(auto, unfolding(crate::specs::Reading::one_at, crate::specs::promise::Words::guid_of))]
     pub(crate) fn guid(&mut self) -> Result<Uuid, Stop>
         ensures { ReadsWords (λ g. g) result self.new (one_at guid_of never_over self.old) }
     {
@@ -376,8 +382,9 @@ impl<'a> Reader<'a> {
         self.taken(guid_of(text))
     }
 
-    /// Reads a part of a version. If `counts` is false, any number is read as 0.
-    #[tactic(auto, unfolding(crate::specs::Reading::one_at, crate::specs::Words::part_of))]
+    /// Reads a part of a version. If `counts` is false, any number is read as 0. Err: `Syntax` if
+    /// the next word is no number, or it counts and is above 65,535.
+    #[tactic(auto, unfolding(crate::specs::Reading::one_at, crate::specs::promise::Words::part_of))]
     pub(crate) fn part(&mut self, counts: bool) -> Result<u16, Stop>
         ensures { ReadsWords (λ n. n) result self.new (one_at (part_of counts) never_over self.old) }
     {
@@ -385,8 +392,9 @@ impl<'a> Reader<'a> {
         self.taken(part_from(counts, number_of(text)))
     }
 
-    /// Reads the number of an `id`; `negative` is whether a minus precedes it.
-    #[tactic(auto, unfolding(crate::specs::Reading::one_at, crate::specs::Words::id_of))]
+    /// Reads the number of an `id`; `negative` is whether a minus precedes it. Err: `Syntax` if the
+    /// next word is no number, or no DISPID.
+    #[tactic(auto, unfolding(crate::specs::Reading::one_at, crate::specs::promise::Words::id_of))]
     pub(crate) fn id(&mut self, negative: bool) -> Result<i32, Stop>
         ensures { ReadsWords (λ n. n) result self.new (one_at (id_of negative) never_over self.old) }
     {
@@ -394,8 +402,9 @@ impl<'a> Reader<'a> {
         self.taken(id_from(negative, is_hexadecimal(text), number_of(text)))
     }
 
-    /// Reads a word of a type; `unsigned` is whether `unsigned` precedes it, `in_array` whether it is the type of an array's elements.
-    #[tactic(auto, unfolding(crate::specs::Reading::one_at, crate::specs::Words::word_type))]
+    /// Reads a word of a type; `unsigned` is whether `unsigned` precedes it, `in_array` whether it
+    /// is the type of an array's elements. Err: `Syntax` if the next word is no such type.
+    #[tactic(auto, unfolding(crate::specs::Reading::one_at, crate::specs::promise::Words::word_type))]
     pub(crate) fn type_word(&mut self, in_array: bool, unsigned: bool) -> Result<VarType, Stop>
         ensures { ReadsWords (λ t. t) result self.new (one_at (word_type in_array unsigned) never_over self.old) }
     {
@@ -404,15 +413,16 @@ impl<'a> Reader<'a> {
     }
 
     /// Returns whether the next word is a string.
-    #[tactic(auto, unfolding(crate::specs::Words::is_text))]
+    #[tactic(auto, unfolding(crate::specs::promise::Words::is_text))]
     pub(crate) fn is_string(&self) -> bool
         ensures { result ≡ heads is_text self.now }
     {
         self.token_text(TokenKind::Text).is_ok()
     }
 
-    /// Reads the number of a default; `negative` is whether a minus precedes it.
-    #[tactic(auto, unfolding(crate::specs::Reading::one_at, crate::specs::Words::amount_of))]
+    /// Reads the number of a default; `negative` is whether a minus precedes it. Err: `Syntax` if
+    /// the next word is no number below 2^96.
+    #[tactic(auto, unfolding(crate::specs::Reading::one_at, crate::specs::promise::Words::amount_of))]
     pub(crate) fn amount(&mut self, negative: bool) -> Result<i128, Stop>
         ensures { ReadsWords (λ n. n) result self.new (one_at (amount_of negative) never_over self.old) }
     {
@@ -420,8 +430,9 @@ impl<'a> Reader<'a> {
         self.taken(amount_from(negative, number_of(text)))
     }
 
-    /// Reads a default string.
-    #[tactic(auto, unfolding(crate::specs::Reading::one_at, crate::specs::Words::characters_of))]
+    /// Reads a default string. Err: `Syntax` if the next word is no string, or has a character that
+    /// is not allowed; `Memory`.
+    #[tactic(auto, unfolding(crate::specs::Reading::one_at, crate::specs::promise::Words::characters_of))]
     pub(crate) fn characters(&mut self, alloc: Global) -> Result<Characters, Stop>
         ensures { ReadsWords (λ n. n) result self.new (one_at characters_of never_over self.old) }
     {

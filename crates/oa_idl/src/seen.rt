@@ -1,10 +1,11 @@
-//! The states of lists that are being parsed. They are public because the definitions of the grammar use them.
+//! The states of lists that are being parsed. They are public because the definitions of the
+//! grammar use them.
 use crate::parts::{Literal, MethodKind, Version};
 use uuid::Uuid;
 
 /// The values of the attributes of a library or an item.
 #[derive(Clone, Copy)]
-pub struct Head {
+pub struct HeadValues {
     /// The GUID; zero until `uuid` is read.
     pub guid: Uuid,
     /// The version; 0.0 until `version` is read, and always for an item.
@@ -21,7 +22,7 @@ pub struct HeadSeen {
     /// Whether `helpstring` has been read.
     pub help: bool,
     /// The values.
-    pub head: Head,
+    pub head: HeadValues,
 }
 
 /// The attributes of a property that have been read.

@@ -1,12 +1,14 @@
 //! Keywords, marks and the names of types.
 ghost use Rattle.std.specs.Prelude.{◌≡◌};
 ghost use Rattle.std.specs.Str.{bytes_eq};
-ghost use Rattle.oa_idl.specs.Words.{kind_of, is_structure, is_type_mark, is_reserved, plain_type, unsigned_type, type_named, if_cell};
+ghost use Rattle.oa_idl.specs.promise.Words.{kind_of, is_structure, is_type_mark, is_reserved, plain_type};
+ghost use Rattle.oa_idl.specs.promise.Words.{unsigned_type, type_named, if_cell};
 
 use oa_model::VarType;
 use oa_tokens::TokenKind;
 
-/// Returns the kind of a keyword or mark: a name, a mark, or the end of the text, which has no bytes.
+/// Returns the kind of a keyword or mark: a name, a mark, or the end of the text, which has no
+/// bytes.
 pub(crate) fn kind_of(sign: &[u8]) -> TokenKind
     ensures { result ≡ kind_of sign.now }
 {
@@ -52,15 +54,15 @@ fn is_type_mark(text: &[u8]) -> bool
 }
 
 /// Returns whether a name is a keyword or the name of a type.
-#[tactic(auto, unfolding(crate::specs::Words::is_reserved))]
+#[tactic(auto, unfolding(crate::specs::promise::Words::is_reserved))]
 pub(crate) fn is_reserved(text: &[u8]) -> bool
     ensures { result ≡ is_reserved text.now }
 {
     is_structure(text) || is_type_mark(text) || plain_type(text).is_some()
 }
 
-/// Returns the type with this name.
-#[tactic(auto, unfolding(crate::specs::Words::plain_type))]
+/// Returns the type with this name; None if there is none.
+#[tactic(auto, unfolding(crate::specs::promise::Words::plain_type))]
 fn plain_type(text: &[u8]) -> Option<VarType>
     ensures { result ≡ plain_type text.now }
 {
@@ -100,8 +102,8 @@ fn plain_type(text: &[u8]) -> Option<VarType>
     None
 }
 
-/// Returns the type with this name after `unsigned`.
-#[tactic(auto, unfolding(crate::specs::Words::unsigned_type))]
+/// Returns the type with this name after `unsigned`; None if there is none.
+#[tactic(auto, unfolding(crate::specs::promise::Words::unsigned_type))]
 fn unsigned_type(text: &[u8]) -> Option<VarType>
     ensures { result ≡ unsigned_type text.now }
 {
@@ -123,7 +125,8 @@ fn unsigned_type(text: &[u8]) -> Option<VarType>
     None
 }
 
-/// Returns the type with this name, after `unsigned` or not. The elements of an array must have a type with an sfType.
+/// Returns the type with this name, after `unsigned` or not. None if there is none, or if it is to
+/// be the type of an array's elements and has no sfType.
 pub(crate) fn type_named(in_array: bool, unsigned: bool, text: &[u8]) -> Option<VarType>
     ensures { result ≡ if_cell in_array (type_named unsigned text.now) }
 {

@@ -42,7 +42,8 @@ impl Display for Limit {
 /// Why `parse` returns no tree.
 #[derive(Clone, Copy, Debug, PartialEq, Eq, Error)]
 pub enum ParseError {
-    /// The token that begins at this byte is not allowed there; or the text must not end at this byte, which is its length.
+    /// The token that begins at this byte is not allowed there; or the text must not end at this
+    /// byte, which is its length.
     #[error("syntax at byte {0}")]
     Syntax(usize),
     /// The text, or a name or item in it, exceeds this limit.
@@ -102,8 +103,11 @@ impl TreeLimit {
 /// Why parsing stopped. The word at which it stopped is the next one.
 #[derive(Clone, Copy)]
 pub(crate) enum Stop {
+    /// The next word is not allowed.
     Syntax,
+    /// The next word, a name, exceeds this limit.
     Limit(TreeLimit),
+    /// An allocation failed.
     Memory,
 }
 

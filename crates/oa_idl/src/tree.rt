@@ -19,7 +19,7 @@ pub struct Tree {
 }
 
 impl Model for Tree {
-    ghost use Rattle.oa_idl.specs.Trees.{TreeValue};
+    ghost use Rattle.oa_idl.specs.promise.Trees.{TreeValue};
 
     ghost Value = { TreeValue };
 

@@ -10,15 +10,16 @@ use Rattle.std.proofs.lemmas.Bool.{and_parts, lt-ltb, ltb-true}
 use Rattle.std.proofs.lemmas.Cmp.{nat_cmp_total, ranked}
 use Rattle.std.proofs.lemmas.List.{length-append}
 use Rattle.oa_variant.specs.declared.variant.Variant.{Variant}
-use Rattle.oa_table.specs.Places.{PlaceValue}
-use Rattle.oa_table.specs.Tables.{ObjectValue, TableValue}
-use Rattle.oa_layout.specs.Formats.{Format, counted, coded, made_where, next_by, only, raw, rising, times}
-use Rattle.oa_layout.specs.Numbers.{u32, guid}
-use Rattle.oa_layout.proofs.Exact.{no_prefix}
-use Rattle.oa_image.specs.Tables.{before, cell, cells, is_used, object, older, table, table_image}
+use Rattle.oa_table.specs.promise.Places.{PlaceValue}
+use Rattle.oa_table.specs.promise.Tables.{ObjectValue, TableValue}
+use Rattle.oa_formats.specs.promise.Formats.{Format, counted, coded, made_where, next_by, only, raw, rising, times}
+use Rattle.oa_formats.specs.promise.Numbers.{u32, guid_format}
+use Rattle.oa_formats.proofs.Exact.{no_prefix}
+use Rattle.oa_image.specs.promise.Tables.{cell, cells, is_used, object, older, place_before, table, table_image}
 use Rattle.oa_image.specs.declared.reader.OpenObject.{OpenObject}
 use Rattle.oa_image.specs.declared.reader.OpenTable.{OpenTable}
-use Rattle.oa_image.specs.Reader.{IsOpenTable, TakesEnd, all_objects, object_so_far, with_at_hand, count_at_hand, is_behind, last_number, object_head, object_taken, table_head, table_taken, taken_at_hand}
+use Rattle.oa_image.specs.Reader.{IsOpenTable, TakesEnd, all_objects, object_so_far, with_at_hand, count_at_hand, is_behind, last_number, object_head}
+use Rattle.oa_image.specs.Reader.{object_taken, table_head, table_taken, taken_at_hand}
 use Rattle.oa_image.proofs.Pieced.{whole_image}
 use Rattle.oa_image.proofs.Rising.{apart, sorted}
 use Rattle.oa_image.proofs.TablesWithImages.{object_parts, table_parts}
@@ -53,7 +54,8 @@ at_last P (p ∷ os) o h = at_last P os o h.1
 below : (a b : ℕ) → nat_cmp a b ≡ Less → a < b
 below a b e = ranked a b Less (sym e)
 
-all_below : (os : List (ℕ × ObjectValue)) (o : ℕ × ObjectValue) → IsStrictlySortedBy nat_cmp (keys_of (os ++ o ∷ [])) → AllByRecursion (λ k. k < o.0) (keys_of os)
+all_below : (os : List (ℕ × ObjectValue)) (o : ℕ × ObjectValue) → IsStrictlySortedBy nat_cmp (keys_of (os ++ o ∷ []))
+    → AllByRecursion (λ k. k < o.0) (keys_of os)
 unfolding IsStrictlySortedBy
 all_below [] o h = tt
 all_below (p ∷ os) o h = (below p.0 o.0 (at_last (λ k. nat_cmp p.0 k ≡ Less) os o h.0), all_below os o h.1)
@@ -103,20 +105,20 @@ unfolding table_head next_by
 head_image t = sym (whole_image t)
 
 pub object_head_is : (number : ℕ) (class : List ℕ) (count : ℕ) → number < 2 ^ 32 → length class ≡ 16 → count < 2 ^ 32 → object_head.Is (number, (class, count))
-unfolding object_head next_by made_where u32 guid
+unfolding object_head next_by made_where u32 guid_format
 object_head_is number class count low long few = (low, (long, few))
 
 pub object_head_parts : (h : ℕ × (List ℕ × ℕ)) → object_head.Is h → (h.0 < 2 ^ 32) × (length h.1.0 ≡ 16) × (h.1.1 < 2 ^ 32)
-unfolding object_head next_by made_where u32 guid
+unfolding object_head next_by made_where u32 guid_format
 object_head_parts h is = (is.0, is.1.0, is.1.1)
 
 pub object_head_bytes : (h : ℕ × (List ℕ × ℕ)) → 0 < length (object_head.image h)
-unfolding object_head next_by made_where u32 guid raw
+unfolding object_head next_by made_where u32 guid_format raw
 object_head_bytes h = omega arith
 
 pub object_image : (o : ℕ × ObjectValue) → object.image o ≡ object_head.image (o.0, (o.1.class, length o.1.cells)) ++ flat_map cell.image o.1.cells
 unfolding object cells only counted times coded made_where object_head next_by
-object_image o = regroup (u32.image o.0) (guid.image o.1.class) (u32.image (length o.1.cells)) (flat_map cell.image o.1.cells)
+object_image o = regroup (u32.image o.0) (guid_format.image o.1.class) (u32.image (length o.1.cells)) (flat_map cell.image o.1.cells)
   where
     regroup : (a b c d : List ℕ) → a ++ (b ++ (c ++ d)) ≡ (a ++ (b ++ c)) ++ d
     regroup a b c d = simp append_assoc refl
@@ -130,16 +132,19 @@ pub record ObjectsBehind (t : OpenTable) (bytes : List ℕ) (whole : TableValue)
   pub are : AllByRecursion object.Is others
   pub bytes_are : taken_at_hand t.object ++ bytes ≡ flat_map object.image others
 
-pub objects_behind : (t : OpenTable) (bytes : List ℕ) (whole : TableValue) → IsOpenTable t → table.Is whole → table_taken t ++ bytes ≡ table_image whole → ObjectsBehind t bytes whole
+pub objects_behind : (t : OpenTable) (bytes : List ℕ) (whole : TableValue) → IsOpenTable t → table.Is whole → table_taken t ++ bytes ≡ table_image whole
+    → ObjectsBehind t bytes whole
 objects_behind t bytes whole valid is e =
     let here = table_parts t.table valid.is in
     let there = table_parts whole is in
     let hand = taken_at_hand t.object in
     let here_all = flat_map object.image t.table.objects in
     let there_all = flat_map object.image whole.objects in
-    let one : table_taken t ++ bytes ≡ table_head.image (t.table.next, all_objects t) ++ ((here_all ++ hand) ++ bytes) = append_assoc (table_head.image (t.table.next, all_objects t)) (here_all ++ hand) bytes in
+    let one : table_taken t ++ bytes ≡ table_head.image (t.table.next, all_objects t) ++ ((here_all ++ hand) ++ bytes) =
+    append_assoc (table_head.image (t.table.next, all_objects t)) (here_all ++ hand) bytes in
     let p = no_prefix table_head (t.table.next, all_objects t) (whole.next, length whole.objects) ((here_all ++ hand) ++ bytes) there_all
-    (head_is t.table.next (all_objects t) here.next valid.few) (head_is whole.next (length whole.objects) there.next there.few) (sym one ∙ e ∙ head_image whole) in
+    (head_is t.table.next (all_objects t) here.next valid.few) (head_is whole.next (length whole.objects) there.next there.few)
+    (sym one ∙ e ∙ head_image whole) in
     let many : all_objects t ≡ length whole.objects = ap (λ (h : ℕ × ℕ). h.1) p.0 in
     let same : here_all ++ (hand ++ bytes) ≡ there_all ++ [] = sym (append_assoc here_all hand bytes) ∙ p.1 ∙ sym (append-nil there_all) in
     let q = list_behind object t.table.objects whole.objects (hand ++ bytes) [] here.all there.all (omega (arith, many)) same in
@@ -205,22 +210,24 @@ object_comes t bytes whole valid none some is e =
         }
 
 -- a cell, where cells of the object at hand are left
-module _ (t : OpenTable) (o : OpenObject) (bytes : List ℕ) (whole : TableValue) (valid : IsOpenTable (with_at_hand o t)) (some : 0 < o.left) (is : table.Is whole)
+module _ (t : OpenTable) (o : OpenObject) (bytes : List ℕ) (whole : TableValue) (valid : IsOpenTable (with_at_hand o t)) (some : 0 < o.left)
+    (is : table.Is whole)
     (e : table_taken (with_at_hand o t) ++ bytes ≡ table_image whole) where
   abbrev NextCell : Type 0
-  NextCell = Comes cell (λ next. is_behind before o.cells.items next ≡ true) bytes
+  NextCell = Comes cell (λ next. is_behind place_before o.cells.items next ≡ true) bytes
 
   abbrev there : List ℕ
   there = flat_map cell.image o.cells.items
 
-  among_cells : (z : ℕ × ObjectValue) (rest : List ℕ) (cells : List (PlaceValue × Variant)) → length o.cells.items + length cells ≡ length o.cells.items + o.left → AllByRecursion cell.Is cells
-      → rising before (o.cells.items ++ cells) ≡ true → bytes ≡ flat_map cell.image cells ++ rest → NextCell
+  among_cells : (z : ℕ × ObjectValue) (rest : List ℕ) (cells : List (PlaceValue × Variant))
+      → length o.cells.items + length cells ≡ length o.cells.items + o.left → AllByRecursion cell.Is cells
+      → rising place_before (o.cells.items ++ cells) ≡ true → bytes ≡ flat_map cell.image cells ++ rest → NextCell
   among_cells z rest [] count are rises same = absurd (omega (arith, some, count))
   among_cells z rest (c ∷ cs) count are rises same = record {
     value = c;
     rest = flat_map cell.image cs ++ rest;
     is = are.0;
-    fits = apart before o.cells.items c cs rises;
+    fits = apart place_before o.cells.items c cs rises;
     bytes_are = same ∙ append_assoc (cell.image c) (flat_map cell.image cs) rest;
   }
 
@@ -234,12 +241,13 @@ module _ (t : OpenTable) (o : OpenObject) (bytes : List ℕ) (whole : TableValue
       let whole_object : object.image z ++ rest ≡ other ++ (flat_map cell.image z.1.cells ++ rest) =
       ap (λ (l : List ℕ). l ++ rest) (object_image z) ∙ append_assoc other (flat_map cell.image z.1.cells) rest in
       let p = no_prefix object_head (o.number, (o.class, all)) (z.0, (z.1.class, length z.1.cells)) (there ++ bytes) (flat_map cell.image z.1.cells ++ rest)
-      (object_head_is o.number o.class all here.number here.class valid.at_hand.few) (object_head_is z.0 z.1.class (length z.1.cells) parts.number parts.class parts.few)
+      (object_head_is o.number o.class all here.number here.class valid.at_hand.few)
+      (object_head_is z.0 z.1.class (length z.1.cells) parts.number parts.class parts.few)
       (sym (append_assoc front there bytes) ∙ same ∙ whole_object) in
       let many : all ≡ length z.1.cells = ap (λ (h : ℕ × (List ℕ × ℕ)). h.1.1) p.0 in
       let q = list_behind cell o.cells.items z.1.cells bytes rest here.all parts.all (omega (arith, many)) p.1 in
       among_cells z rest q.others (omega (arith, many, ap length q.all, length-append o.cells.items q.others)) q.are
-      (subst (λ all. rising before all ≡ true) q.all parts.rises) q.bytes
+      (subst (λ all. rising place_before all ≡ true) q.all parts.rises) q.bytes
 
   pub cell_comes : NextCell
   cell_comes = by b.others b.count b.are b.bytes_are
@@ -247,6 +255,7 @@ module _ (t : OpenTable) (o : OpenObject) (bytes : List ℕ) (whole : TableValue
       b : ObjectsBehind (with_at_hand o t) bytes whole
       b = objects_behind (with_at_hand o t) bytes whole valid is e
 
-      by : (others : List (ℕ × ObjectValue)) → length others ≡ 1 + t.left → AllByRecursion object.Is others → object_taken o ++ bytes ≡ flat_map object.image others → NextCell
+      by : (others : List (ℕ × ObjectValue)) → length others ≡ 1 + t.left → AllByRecursion object.Is others
+          → object_taken o ++ bytes ≡ flat_map object.image others → NextCell
       by [] count are same = absurd (omega (arith, count))
       by (z ∷ os) count are same = of_object z (flat_map object.image os) are.0 same

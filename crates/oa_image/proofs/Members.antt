@@ -5,18 +5,19 @@ use Rattle.std.specs.Int.{w32}
 use Rattle.std.specs.List.{AllByRecursion}
 use Rattle.std.proofs.lemmas.List.Elements.{All-head, All-tail}
 use Rattle.oa_variant.specs.Scalars.{IsScalar}
-use Rattle.oa_variant.specs.Variants.{IsVariant, unlocked}
+use Rattle.oa_variant.specs.Variants.{IsVariant}
+use Rattle.oa_variant.specs.promise.Variants.{unlocked}
 use Rattle.oa_variant.specs.declared.scalar.Scalar.{Scalar}
 use Rattle.oa_variant.specs.declared.variant.Variant.{Variant}
 use Rattle.oa_variant.specs.declared.variant.Variant.TheVariants as variants
-use Rattle.oa_table.specs.Elements.{locks_of}
-use Rattle.oa_layout.specs.Formats.{made_where}
-use Rattle.oa_layout.specs.Numbers.{i32}
-use Rattle.oa_layout.specs.Values.{scalar}
-use Rattle.oa_layout.specs.Variants.{value}
-use Rattle.oa_layout.proofs.Conditions.{scalar_is, value_is}
+use Rattle.oa_table.specs.promise.Elements.{locks_of}
+use Rattle.oa_formats.specs.promise.Formats.{made_where}
+use Rattle.oa_formats.specs.promise.Numbers.{i32}
+use Rattle.oa_formats.specs.promise.Values.{scalar_format}
+use Rattle.oa_formats.specs.promise.Variants.{value}
+use Rattle.oa_formats.proofs.Conditions.{scalar_is, value_is}
 
-pub each_scalar : (xs : List Scalar) → All IsScalar xs → AllByRecursion scalar.Is xs
+pub each_scalar : (xs : List Scalar) → All IsScalar xs → AllByRecursion scalar_format.Is xs
 each_scalar [] h = tt
 each_scalar (x ∷ xs) h = (scalar_is x (All-head IsScalar x xs h), each_scalar xs (All-tail IsScalar x xs h))
 

@@ -10,19 +10,19 @@ use Rattle.std.specs.declared.cmp.Ordering.{Ordering}
 use Rattle.std.specs.declared.cmp.Ordering.TheVariants.{Less, Equal, Greater}
 use Rattle.std.proofs.lemmas.Bool.{and_parts, eqb-true, ltb-true, lt-ltb}
 use Rattle.std.proofs.lemmas.List.Folds.{list_all-append, list_all-map}
-use Rattle.oa_model.specs.Limits.{greatest_object_number}
+use Rattle.oa_model.specs.promise.Limits.{greatest_object_number}
 use Rattle.oa_array.specs.declared.fault.ArrayFault.TheVariants as arrays
 use Rattle.oa_table.specs.declared.event.Event.{Event}
 use Rattle.oa_table.specs.declared.event.Event.TheVariants.{Create, Release, Put, PutElement, Redim}
 use Rattle.oa_table.specs.declared.fault.TableFault.{TableFault}
 use Rattle.oa_table.specs.declared.fault.TableFault.TheVariants.{Array, WrongNumber}
-use Rattle.oa_table.specs.Elements.{with_element_put, redimensioned_value}
-use Rattle.oa_table.specs.Events.{applied, changed_if_live, created, on_object, released_if_live, with_object}
-use Rattle.oa_table.specs.Objects.{any_locked, with_change, with_put}
-use Rattle.oa_table.specs.Outcomes.{mapped}
+use Rattle.oa_table.specs.promise.Elements.{with_element_put, redimensioned_value}
+use Rattle.oa_table.specs.promise.Events.{applied, changed_if_live, created, on_object, released_if_live, with_object}
+use Rattle.oa_table.specs.promise.Objects.{any_locked, with_change, with_put}
+use Rattle.oa_table.specs.promise.Outcomes.{mapped}
 use Rattle.oa_table.specs.Parts.{CanBeLast, with_last}
-use Rattle.oa_table.specs.Tables.{ObjectValue, TableValue, object_at, unlocked_entry, unlocked_table}
-use Rattle.oa_image.specs.Tables.{is_numbered, is_used}
+use Rattle.oa_table.specs.promise.Tables.{ObjectValue, TableValue, object_at, unlocked_entry, unlocked_table}
+use Rattle.oa_image.specs.promise.Tables.{is_numbered, is_used}
 
 module _ {K X : Type 0} (p : K → Bool) where
   abbrev good : List (K × X) → Bool
@@ -74,7 +74,8 @@ used_later next number e =
     rw (parts.0, lt-ltb number (next + 1) (omega (arith, ltb-true number next parts.1))) refl
 
 create_keeps : (number : ℕ) (object : ObjectValue) (t : TableValue) → IsNumbered t → IfOk (created number object t) IsNumbered
-create_keeps number object t h = by (eqb number t.next && leb number greatest_object_number) (λ e. made (and_parts (eqb number t.next) (leb number greatest_object_number) e).0)
+create_keeps number object t h = by (eqb number t.next && leb number greatest_object_number)
+    (λ e. made (and_parts (eqb number t.next) (leb number greatest_object_number) e).0)
   where
     made : eqb number t.next ≡ true → IsNumbered (record { next = number + 1; objects = insert_entry nat_cmp t.objects number object })
     made e =
@@ -82,7 +83,8 @@ create_keeps number object t h = by (eqb number t.next && leb number greatest_ob
         let parts = and_parts (ltb 0 t.next) (list_all (is_used t.next) t.objects) h in
         let old : good (used number) t.objects ≡ true = subst (λ (n : ℕ). good (used n) t.objects ≡ true) (sym is) parts.1 in
         let later = good_weaker (used number) (used (number + 1)) (used_later number) t.objects old in
-        let here : used (number + 1) number ≡ true = rw (lt-ltb 0 number (omega (arith, is, ltb-true 0 t.next parts.0)), lt-ltb number (number + 1) (omega arith)) refl in
+        let here : used (number + 1) number ≡ true =
+        rw (lt-ltb 0 number (omega (arith, is, ltb-true 0 t.next parts.0)), lt-ltb number (number + 1) (omega arith)) refl in
         rw (lt-ltb 0 (number + 1) (omega arith), good_inserted (used (number + 1)) nat_cmp t.objects number object later here) refl
 
     by : (b : Bool) → (b ≡ true → IsNumbered (record { next = number + 1; objects = insert_entry nat_cmp t.objects number object }))
@@ -136,7 +138,8 @@ pub unlocked_numbers : (t : TableValue) → is_numbered (unlocked_table t) ≡ i
 unlocked_numbers t = ap (λ (b : Bool). nat_lt 0 t.next && b) (list_all-map (is_used t.next) unlocked_entry t.objects)
 
 -- one object more, behind the others
-pub pushed_numbers_stay : (number : ℕ) (object : ObjectValue) (t : TableValue) → CanBeLast number object t → IsNumbered t → IsNumbered (with_last number object t)
+pub pushed_numbers_stay : (number : ℕ) (object : ObjectValue) (t : TableValue) → CanBeLast number object t → IsNumbered t
+    → IsNumbered (with_last number object t)
 pushed_numbers_stay number object t can h =
     let parts = and_parts (ltb 0 t.next) (list_all (is_used t.next) t.objects) h in
     let here : used t.next number ≡ true = rw (lt-ltb 0 number (omega (arith, can.positive)), lt-ltb number t.next can.used) refl in

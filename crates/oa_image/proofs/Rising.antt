@@ -7,7 +7,7 @@ use Rattle.std.specs.Cmp.{IsTotalOrder}
 use Rattle.std.specs.Ordering.{is_lt}
 use Rattle.std.specs.declared.cmp.Ordering.{Ordering}
 use Rattle.std.specs.declared.cmp.Ordering.TheVariants.{Less, Equal, Greater}
-use Rattle.oa_layout.specs.Formats.{rising, same_content}
+use Rattle.oa_formats.specs.promise.Formats.{rising, same_content}
 use Rattle.oa_image.specs.Reader.{is_behind}
 
 less : (o : Ordering) → is_lt o ≡ true → o ≡ Less

@@ -5,20 +5,21 @@ use Rattle.std.specs.Map.{values_of}
 use Rattle.std.proofs.lemmas.List.{length-map}
 use Rattle.oa_variant.specs.declared.variant.Variant.{Variant}
 use Rattle.oa_variant.specs.declared.variant.Variant.TheVariants as variants
-use Rattle.oa_table.specs.Elements.{locks_of}
-use Rattle.oa_table.specs.Places.{PlaceValue}
-use Rattle.oa_table.specs.Tables.{ObjectValue, TableValue, unlocked_cell, unlocked_entry, unlocked_table}
-use Rattle.oa_layout.specs.Formats.{raw, next_by, made_where, coded, counted, only, rising, times, tagged, case}
-use Rattle.oa_layout.specs.Arrays.{array_of}
-use Rattle.oa_layout.specs.Numbers.{u32, guid}
-use Rattle.oa_layout.specs.Variants.{content, value}
-use Rattle.oa_layout.proofs.Conditions.{same_unlocked}
-use Rattle.oa_layout.proofs.Exact.{one_value}
-use Rattle.oa_image.specs.Tables.{before, cell, cells, is_numbered, object, objects, older, table}
+use Rattle.oa_table.specs.promise.Elements.{locks_of}
+use Rattle.oa_table.specs.promise.Places.{PlaceValue}
+use Rattle.oa_table.specs.promise.Tables.{ObjectValue, TableValue, unlocked_cell, unlocked_entry, unlocked_table}
+use Rattle.oa_formats.specs.promise.Formats.{raw, next_by, made_where, coded, counted, only, rising, times, tagged}
+use Rattle.oa_formats.specs.promise.Formats.{case}
+use Rattle.oa_formats.specs.promise.Arrays.{array_format}
+use Rattle.oa_formats.specs.promise.Numbers.{u32, guid_format}
+use Rattle.oa_formats.specs.promise.Variants.{content, value}
+use Rattle.oa_formats.proofs.Conditions.{same_unlocked}
+use Rattle.oa_formats.proofs.Exact.{one_value}
+use Rattle.oa_image.specs.promise.Tables.{cell, cells, is_numbered, object, objects, older, place_before, table}
 
 -- a value that has an image has no locks
 pub no_locks : (v : Variant) → value.Is v → locks_of v ≡ 0
-unfolding value content tagged case array_of made_where
+unfolding value content tagged case array_format made_where
 no_locks (variants.One s) h = refl
 no_locks (variants.Array a) h = h.1.1.1
 
@@ -33,14 +34,14 @@ pub record ObjectParts (o : ℕ × ObjectValue) : Type 0 where
   pub class : length o.1.class ≡ 16
   pub few : length o.1.cells < 2 ^ 32
   pub all : AllByRecursion cell.Is o.1.cells
-  pub rises : rising before o.1.cells ≡ true
+  pub rises : rising place_before o.1.cells ≡ true
 
 pub object_parts : (o : ℕ × ObjectValue) → object.Is o → ObjectParts o
-unfolding object cells only counted coded made_where next_by u32 guid times raw
+unfolding object cells only counted coded made_where next_by u32 guid_format times raw
 object_parts o h = record { number = h.0; class = h.1.0; few = h.1.1.0.0; all = h.1.1.0.1; rises = h.1.1.1 }
 
 pub is_object : (o : ℕ × ObjectValue) → ObjectParts o → object.Is o
-unfolding object cells only counted coded made_where next_by u32 guid times raw
+unfolding object cells only counted coded made_where next_by u32 guid_format times raw
 is_object o p = (p.number, (p.class, ((p.few, p.all), p.rises)))
 
 -- and a table

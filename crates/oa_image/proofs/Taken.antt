@@ -12,19 +12,22 @@ use Rattle.std.proofs.Math.Seq.{take-add}
 use Rattle.std.proofs.lemmas.List.Concat.{flat_map-append}
 use Rattle.std.proofs.lemmas.List.Elements.{All-from_recursion}
 use Rattle.oa_variant.specs.declared.variant.Variant.{Variant}
-use Rattle.oa_table.specs.Elements.{locks_of}
+use Rattle.oa_table.specs.promise.Elements.{locks_of}
 use Rattle.oa_table.specs.Parts.{CanBeLast, table_with_next, with_last}
-use Rattle.oa_table.specs.Places.{PlaceValue, place_cmp, places_total}
-use Rattle.oa_table.specs.Sizes.{table_size}
-use Rattle.oa_table.specs.Tables.{ObjectValue, TableValue}
-use Rattle.oa_ndr.specs.Reading.{Cursor, at}
-use Rattle.oa_layout.specs.Formats.{Format, IsBytes, rising}
-use Rattle.oa_layout.proofs.Exact.{no_prefix}
-use Rattle.oa_image.specs.Tables.{before, cell, object, older, table, table_image, is_used}
+use Rattle.oa_table.specs.promise.Places.{PlaceValue, place_cmp}
+use Rattle.oa_table.specs.Places.{places_total}
+use Rattle.oa_table.specs.promise.Sizes.{table_size}
+use Rattle.oa_table.specs.promise.Tables.{ObjectValue, TableValue}
+use Rattle.oa_ndr.specs.promise.Reading.{Cursor, at}
+use Rattle.oa_formats.specs.promise.Formats.{Format, IsBytes, rising}
+use Rattle.oa_formats.proofs.Exact.{no_prefix}
+use Rattle.oa_image.specs.promise.Tables.{place_before, cell, object, older, table, table_image, is_used}
 use Rattle.oa_image.specs.declared.reader.OpenObject.{OpenObject}
 use Rattle.oa_image.specs.declared.reader.OpenTable.{OpenTable}
-use Rattle.oa_image.specs.Reader.{BeginsWith, IsBetweenParts, IsOpenTable, TakesEnd, TakesPart, all_objects, is_behind, object_head, object_so_far, object_taken, table_head, table_taken, with_at_hand}
-use Rattle.oa_image.proofs.Behind.{Comes, above_last, cell_comes, each_below, object_comes, object_head_bytes, head_image, head_is, head_parts, last_pushed, object_head_parts, object_image}
+use Rattle.oa_image.specs.Reader.{BeginsWith, IsBetweenParts, IsOpenTable, TakesEnd, TakesPart, all_objects, is_behind, object_head, object_so_far}
+use Rattle.oa_image.specs.Reader.{object_taken, table_head, table_taken, with_at_hand}
+use Rattle.oa_image.proofs.Behind.{Comes, above_last, cell_comes, each_below, object_comes, object_head_bytes, head_image, head_is, head_parts, last_pushed}
+use Rattle.oa_image.proofs.Behind.{object_head_parts, object_image}
 use Rattle.oa_image.proofs.InMemory.{cell_bytes}
 use Rattle.oa_image.proofs.Numbered.{pushed_numbers_stay}
 use Rattle.oa_image.proofs.Rising.{joined, sorted}
@@ -90,14 +93,16 @@ module _ (t : OpenTable) (o : OpenObject) (cells : Vec (PlaceValue × Variant)) 
   pub cell_taken : (bytes : List ℕ) → bytes ≡ cell.image c → table_taken (with_at_hand grown t) ≡ table_taken (with_at_hand o t) ++ bytes
   cell_taken bytes is =
       let head = object_head.image (o.number, (o.class, length o.cells.items + o.left)) in
-      let cells_are : flat_map cell.image cells.items ≡ flat_map cell.image o.cells.items ++ bytes = ap (flat_map cell.image) pushed ∙ images_pushed cell.image o.cells.items c
+      let cells_are : flat_map cell.image cells.items ≡ flat_map cell.image o.cells.items ++ bytes = ap (flat_map cell.image) pushed
+      ∙ images_pushed cell.image o.cells.items c
       ∙ ap (λ (l : List ℕ). flat_map cell.image o.cells.items ++ l) (sym is) in
-      rw (count, cells_are) (regroup (table_head.image (t.table.next, all_objects (with_at_hand o t))) (flat_map object.image t.table.objects) head (flat_map cell.image o.cells.items) bytes)
+      rw (count, cells_are) (regroup (table_head.image (t.table.next, all_objects (with_at_hand o t))) (flat_map object.image t.table.objects) head
+      (flat_map cell.image o.cells.items) bytes)
     where
       regroup : (a b c d e : List ℕ) → a ++ (b ++ (c ++ (d ++ e))) ≡ (a ++ (b ++ (c ++ d))) ++ e
       regroup a b c d e = simp append_assoc refl
 
-  pub cell_opens : IsOpenTable (with_at_hand o t) → cell.Is c → is_behind before o.cells.items c ≡ true → IsOpenTable (with_at_hand grown t)
+  pub cell_opens : IsOpenTable (with_at_hand o t) → cell.Is c → is_behind place_before o.cells.items c ≡ true → IsOpenTable (with_at_hand grown t)
   cell_opens valid is behind =
       let parts = object_parts (object_so_far o) valid.at_hand.is in
       record {
@@ -110,7 +115,7 @@ module _ (t : OpenTable) (o : OpenObject) (cells : Vec (PlaceValue × Variant)) 
             class = parts.class;
             few = omega (arith, count, valid.at_hand.few);
             all = subst (AllByRecursion cell.Is) (sym pushed) (push_all cell.Is o.cells.items c parts.all is);
-            rises = subst (λ all. rising before all ≡ true) (sym pushed) (joined before o.cells.items c parts.rises behind);
+            rises = subst (λ all. rising place_before all ≡ true) (sym pushed) (joined place_before o.cells.items c parts.rises behind);
           });
           above = valid.at_hand.above;
           used = valid.at_hand.used;
@@ -120,7 +125,8 @@ module _ (t : OpenTable) (o : OpenObject) (cells : Vec (PlaceValue × Variant)) 
 
 -- ---- an object
 
-module _ (t : OpenTable) (number : ℕ) (class : List ℕ) (cells : Vec (PlaceValue × Variant)) (left : ℕ) (none : t.object ≡ None) (some : 0 < t.left) (empty : cells.items ≡ []) where
+module _ (t : OpenTable) (number : ℕ) (class : List ℕ) (cells : Vec (PlaceValue × Variant)) (left : ℕ) (none : t.object ≡ None) (some : 0 < t.left)
+    (empty : cells.items ≡ []) where
   abbrev opened : OpenObject
   opened = record { number = number; class = class; cells = cells; left = left }
 
@@ -130,10 +136,12 @@ module _ (t : OpenTable) (number : ℕ) (class : List ℕ) (cells : Vec (PlaceVa
   all_are : length t.table.objects + (1 + (t.left - 1)) ≡ all_objects t
   all_are = rw none (omega (arith, some))
 
-  pub object_head_taken : (bytes : List ℕ) → bytes ≡ object_head.image (number, (class, left)) → table_taken (with_at_hand opened fewer) ≡ table_taken t ++ bytes
+  pub object_head_taken : (bytes : List ℕ) → bytes ≡ object_head.image (number, (class, left))
+      → table_taken (with_at_hand opened fewer) ≡ table_taken t ++ bytes
   object_head_taken bytes is =
       let count : length cells.items + left ≡ left = omega (arith, ap length empty) in
-      rw (all_are, count, empty, none, is) (regroup (table_head.image (t.table.next, length t.table.objects + (0 + t.left))) (flat_map object.image t.table.objects) (object_head.image (number, (class, left))))
+      rw (all_are, count, empty, none, is) (regroup (table_head.image (t.table.next, length t.table.objects + (0 + t.left)))
+      (flat_map object.image t.table.objects) (object_head.image (number, (class, left))))
     where
       regroup : (a b c : List ℕ) → a ++ (b ++ (c ++ [])) ≡ (a ++ (b ++ [])) ++ c
       regroup a b c = simp (append_assoc, append-nil) refl
@@ -151,7 +159,7 @@ module _ (t : OpenTable) (number : ℕ) (class : List ℕ) (cells : Vec (PlaceVa
             class = head.1;
             few = omega (arith, ap length empty);
             all = subst (AllByRecursion cell.Is) (sym empty) tt;
-            rises = subst (λ all. rising before all ≡ true) (sym empty) refl;
+            rises = subst (λ all. rising place_before all ≡ true) (sym empty) refl;
           });
           above = above;
           used = used;
@@ -201,7 +209,8 @@ module _ (t : OpenTable) (o : OpenObject) (valid : IsOpenTable (with_at_hand o t
   pub closed_taken : (new : TableValue) → new ≡ made → table_taken (closed new) ≡ table_taken (with_at_hand o t)
   closed_taken new is =
       let objects_are : flat_map object.image made.objects ++ [] ≡ flat_map object.image t.table.objects ++ object_taken o =
-      append-nil (flat_map object.image made.objects) ∙ images_pushed object.image t.table.objects (o.number, whole_object) ∙ ap (λ (l : List ℕ). flat_map object.image t.table.objects ++ l) (sym object_whole) in
+      append-nil (flat_map object.image made.objects) ∙ images_pushed object.image t.table.objects (o.number, whole_object)
+      ∙ ap (λ (l : List ℕ). flat_map object.image t.table.objects ++ l) (sym object_whole) in
       rw (is, hand, all_same, objects_are) refl
 
   pub closed_is : (new : TableValue) → new ≡ made → IsOpenTable (closed new)
@@ -224,14 +233,16 @@ module _ (t : OpenTable) (o : OpenObject) (valid : IsOpenTable (with_at_hand o t
 
 pub further : (old now new bytes : List ℕ) (n m : ℕ) → now ≡ old ++ take n bytes → new ≡ now ++ take m (drop n bytes) → new ≡ old ++ take (n + m) bytes
 further old now new bytes n m was is =
-    is ∙ ap (λ (l : List ℕ). l ++ take m (drop n bytes)) was ∙ append_assoc old (take n bytes) (take m (drop n bytes)) ∙ ap (λ (l : List ℕ). old ++ l) (sym (take-add n m bytes))
+    is ∙ ap (λ (l : List ℕ). l ++ take m (drop n bytes)) was ∙ append_assoc old (take n bytes) (take m (drop n bytes))
+    ∙ ap (λ (l : List ℕ). old ++ l) (sym (take-add n m bytes))
 
 pub all_behind : (bytes : List ℕ) (n : ℕ) → take (length bytes - n) (drop n bytes) ≡ drop n bytes
 all_behind bytes n = take_all (length bytes - n) (drop n bytes) (omega (arith, length-drop n bytes))
 
 pub ends : (old now bytes : List ℕ) (n m : ℕ) → n ≤ length bytes → now ≡ old ++ take n bytes → TakesEnd now (drop n bytes) m → TakesEnd old bytes (n + m)
 ends old now bytes n m within was end t is e =
-    let same : now ++ drop n bytes ≡ old ++ bytes = ap (λ (l : List ℕ). l ++ drop n bytes) was ∙ append_assoc old (take n bytes) (drop n bytes) ∙ ap (λ (l : List ℕ). old ++ l) (take-append-drop n bytes) in
+    let same : now ++ drop n bytes ≡ old ++ bytes = ap (λ (l : List ℕ). l ++ drop n bytes) was ∙ append_assoc old (take n bytes) (drop n bytes)
+    ∙ ap (λ (l : List ℕ). old ++ l) (take-append-drop n bytes) in
     let all : m ≡ length (drop n bytes) = end t is (same ∙ e) in
     omega (arith, all, length-drop n bytes, within)
 
@@ -241,9 +252,11 @@ pub begins_none : (bytes : List ℕ) → BeginsWith table_head (λ head. 0 < hea
 begins_none bytes none t is e =
     let parts = table_parts t is in
     let numbered = and_parts (ltb 0 t.next) (list_all (is_used t.next) t.objects) parts.numbered in
-    none (t.next, length t.objects) (flat_map object.image t.objects) (head_is t.next (length t.objects) parts.next parts.few) (ltb-true 0 t.next numbered.0) (e ∙ head_image t)
+    none (t.next, length t.objects) (flat_map object.image t.objects) (head_is t.next (length t.objects) parts.next parts.few) (ltb-true 0 t.next numbered.0)
+    (e ∙ head_image t)
 
-pub begun_is : (next left : ℕ) → table_head.Is (next, left) → 0 < next → IsOpenTable (record { table = table_with_next next; last = 0; object = None; left = left })
+pub begun_is : (next left : ℕ) → table_head.Is (next, left) → 0 < next
+    → IsOpenTable (record { table = table_with_next next; last = 0; object = None; left = left })
 begun_is next left is some =
     let head = head_parts (next, left) is in
     record {
@@ -253,7 +266,8 @@ begun_is next left is some =
       at_hand = tt;
     }
 
-pub begun_taken : (next left : ℕ) (bytes : List ℕ) → bytes ≡ table_head.image (next, left) → bytes ≡ table_taken (record { table = table_with_next next; last = 0; object = None; left = left })
+pub begun_taken : (next left : ℕ) (bytes : List ℕ) → bytes ≡ table_head.image (next, left)
+    → bytes ≡ table_taken (record { table = table_with_next next; last = 0; object = None; left = left })
 begun_taken next left bytes is =
     let count : left ≡ 0 + (0 + left) = omega arith in
     is ∙ sym (append-nil (table_head.image (next, left))) ∙ ap (λ (n : ℕ). table_head.image (next, n) ++ []) count
@@ -264,7 +278,8 @@ nothing : (image rest : List ℕ) → 0 < length image → [] ≡ image ++ rest 
 nothing image rest some e = absurd (omega (arith, some, ap length e, length-append image rest))
 
 -- a part would come
-pub not_whole : (t : OpenTable) → IsBetweenParts t → (t.object ≡ None → 0 < t.left) → (whole : TableValue) → table.Is whole → table_taken t ≡ table_image whole → ⊥
+pub not_whole : (t : OpenTable) → IsBetweenParts t → (t.object ≡ None → 0 < t.left) → (whole : TableValue) → table.Is whole → table_taken t ≡ table_image whole
+    → ⊥
 not_whole t between left whole is e = by t.object refl
   where
     by : (hand : Option OpenObject) → t.object ≡ hand → ⊥

@@ -1,9 +1,9 @@
 -- What is read of an image has no locks.
-use Rattle.oa_layout.specs.Formats.{next_by, tagged, case}
+use Rattle.oa_formats.specs.promise.Formats.{next_by, tagged, case}
 use Rattle.oa_table.specs.declared.event.Event.{Event}
 use Rattle.oa_table.specs.declared.event.Event.TheVariants.{Create, Release, Put, PutElement, Redim}
 use Rattle.oa_table.specs.Events.{BringsNoLocks}
-use Rattle.oa_image.specs.Events.{event, of_kind, put}
+use Rattle.oa_image.specs.promise.Events.{event, of_kind, put}
 use Rattle.oa_image.proofs.TablesWithImages.{no_locks}
 
 pub brings_none : (e : Event) → event.Is e → BringsNoLocks e

@@ -1,25 +1,6 @@
--- The images of names of cells (this project's choice).
+-- Definitions for contracts and proofs, beside promise/Names.
 use Rattle.std.specs.Prelude.{⊤}
-use Rattle.std.proofs.Common.{List, refl}
-use Rattle.oa_variant.specs.declared.scalar.Scalar.{Scalar}
-use Rattle.oa_table.specs.Places.{PlaceValue}
-use Rattle.oa_table.specs.declared.name.CellName.{CellName}
-use Rattle.oa_layout.specs.Formats.{Format, ◌▸◌, made, counted}
-use Rattle.oa_layout.specs.Numbers.{u16, u32, i32, guid}
-use Rattle.oa_layout.specs.Values.{scalar}
-
-unfoldable pub key : Format (List Scalar)
-key = counted u16 scalar
-
--- interface, DISPID, key
-unfoldable pub place : Format PlaceValue
-place =
-    made (λ p. record { interface = p.0; dispid = p.1.0; key = p.1.1 }) (λ p. (p.interface, (p.dispid, p.key)))
-    (guid ▸ i32 ▸ key)
-    (λ p. refl) (λ p. refl)
-
-unfoldable pub name : Format CellName
-name = made (λ p. record { object = p.0; place = p.1 }) (λ n. (n.object, n.place)) (u32 ▸ place) (λ p. refl) (λ n. refl)
+use Rattle.oa_image.specs.promise.Names.{key, place, name}
 
 -- ---- what a proof opens of a name and its parts
 

@@ -2,10 +2,10 @@
 use Rattle.std.specs.Prelude.{◌≡◌, ◌<◌, ◌≤◌, ◌+◌, ◌^◌, ℕ, Bool, true, List, [], ◌∷◌, ◌++◌, length, take, Option, Some}
 use Rattle.std.specs.Prelude.{None}
 use Rattle.std.specs.List.{flat_map}
-use Rattle.oa_table.specs.Tables.{ObjectValue, TableValue}
-use Rattle.oa_layout.specs.Formats.{Format, ◌▸◌}
-use Rattle.oa_layout.specs.Numbers.{u32, guid}
-use Rattle.oa_image.specs.Tables.{cell, object, table, table_image}
+use Rattle.oa_table.specs.promise.Tables.{ObjectValue, TableValue}
+use Rattle.oa_formats.specs.promise.Formats.{Format, ◌▸◌}
+use Rattle.oa_formats.specs.promise.Numbers.{u32, guid_format}
+use Rattle.oa_image.specs.promise.Tables.{cell, object, table, table_image}
 use Rattle.oa_image.specs.declared.reader.OpenObject.{OpenObject}
 use Rattle.oa_image.specs.declared.reader.OpenTable.{OpenTable}
 
@@ -15,7 +15,7 @@ table_head = u32 ▸ u32
 
 -- the bytes before the cells of an object: its number, its coclass, and the number of its cells
 unfoldable pub object_head : Format (ℕ × (List ℕ × ℕ))
-object_head = u32 ▸ guid ▸ u32
+object_head = u32 ▸ guid_format ▸ u32
 
 -- The bytes begin with the image of a value with P, of this length; or with none.
 abbrev pub BeginsWith : {C : Type 0} → Format C → (C → Type 0) → List ℕ → Option (C × ℕ) → Type 0
@@ -101,7 +101,7 @@ abbrev pub with_at_hand : OpenObject → OpenTable → OpenTable
 with_at_hand o t = record t { object = Some o }
 
 -- Of the bytes that follow those consumed before, the first n are consumed, too.
-pub record Takes (old new bytes : List ℕ) (n : ℕ) : Type 0 where
+pub record ConsumesNext (old new bytes : List ℕ) (n : ℕ) : Type 0 where
   pub within : n ≤ length bytes
   pub taken : new ≡ old ++ take n bytes
 
@@ -111,7 +111,7 @@ TakesEnd old bytes n = (t : TableValue) → table.Is t → old ++ bytes ≡ tabl
 
 -- what one step consumes: a part, or nothing if the bytes begin with none that may come
 pub record TakesPart (old new : OpenTable) (bytes : List ℕ) (n : ℕ) : Type 0 where
-  pub takes : Takes (table_taken old) (table_taken new) bytes n
+  pub takes : ConsumesNext (table_taken old) (table_taken new) bytes n
   pub none : n ≡ 0 → TakesEnd (table_taken old) bytes 0
 
 -- The beginning of an image: the head of a table, of which no object was read, with its length; or none.

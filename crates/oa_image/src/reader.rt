@@ -1,13 +1,13 @@
 //! Reading the image of a table in stretches.
 ghost use Rattle.std.specs.Prelude.{◌≡◌, ◌<◌, ◌≤◌, ◌++◌, [], length, take, true, ⊤, IfOk, OnOk, MatchOption, None};
-ghost use Rattle.oa_table.specs.Tables.{TableValue};
-ghost use Rattle.oa_image.specs.Reader.{BeginsTable, BeginsWith, IsBetweenParts, IsOpenTable, Takes, TakesEnd, TakesPart, is_behind};
+ghost use Rattle.oa_table.specs.promise.Tables.{TableValue};
+ghost use Rattle.oa_image.specs.Reader.{BeginsTable, BeginsWith, ConsumesNext, IsBetweenParts, IsOpenTable, TakesEnd, TakesPart, is_behind};
 ghost use Rattle.oa_image.specs.Reader.{object_head, table_head, table_taken, with_at_hand};
-ghost use Rattle.oa_image.specs.Tables as tables;
-ghost use Rattle.oa_image.specs.Tables.{table as a_table, table_image};
+ghost use Rattle.oa_image.specs.promise.Tables as tables;
+ghost use Rattle.oa_image.specs.promise.Tables.{table as a_table, table_image};
 
 use crate::name::PlaceFormat;
-use oa_layout::{ReadFault, ReadImage, VariantFormat, read_guid, read_u32};
+use oa_formats::{ReadFault, ReadImage, VariantFormat, read_guid, read_u32};
 use oa_ndr::Ndr;
 use oa_ordered::OrderedMap;
 use oa_table::{Place, Table};
@@ -25,7 +25,7 @@ impl ReadImage for TableHead {
 
     ghost format = { table_head };
 
-    #[tactic(auto, unfolding(oa_ndr::specs::Reading::steps, oa_layout::specs::Formats::next_by, crate::specs::Reader::table_head))]
+    #[tactic(auto, unfolding(oa_ndr::specs::Reading::steps, oa_formats::specs::promise::Formats::next_by, crate::specs::Reader::table_head))]
     fn read(_alloc: Global, r: &mut Ndr<'_>) -> Result<(u32, u32), ReadFault> {
         let next = read_u32(r)?;
         let count = read_u32(r)?;
@@ -33,8 +33,8 @@ impl ReadImage for TableHead {
     }
 }
 
-/// The bytes before the cells of an object: its number as u32, its coclass in wire order, the number of its cells as
-/// u32.
+/// The bytes before the cells of an object: its number as u32, its coclass in wire order, the
+/// number of its cells as u32.
 struct ObjectHead;
 
 impl ReadImage for ObjectHead {
@@ -42,7 +42,7 @@ impl ReadImage for ObjectHead {
 
     ghost format = { object_head };
 
-    #[tactic(auto, unfolding(oa_ndr::specs::Reading::steps, oa_layout::specs::Formats::next_by, crate::specs::Reader::object_head))]
+    #[tactic(auto, unfolding(oa_ndr::specs::Reading::steps, oa_formats::specs::promise::Formats::next_by, crate::specs::Reader::object_head))]
     fn read(_alloc: Global, r: &mut Ndr<'_>) -> Result<(u32, (Uuid, u32)), ReadFault> {
         let number = read_u32(r)?;
         let class = read_guid(r)?;
@@ -51,7 +51,7 @@ impl ReadImage for ObjectHead {
     }
 }
 
-/// A cell: a place and its value.
+/// The format of cells: a place and its value.
 struct CellFormat;
 
 impl ReadImage for CellFormat {
@@ -59,7 +59,7 @@ impl ReadImage for CellFormat {
 
     ghost format = { tables.cell };
 
-    #[tactic(auto, unfolding(oa_ndr::specs::Reading::steps, oa_layout::specs::Formats::next_by, crate::specs::Tables::cell))]
+    #[tactic(auto, unfolding(oa_ndr::specs::Reading::steps, oa_formats::specs::promise::Formats::next_by, crate::specs::promise::Tables::cell))]
     fn read(alloc: Global, r: &mut Ndr<'_>) -> Result<(Place, Variant), ReadFault> {
         let place = PlaceFormat::read(alloc, r)?;
         let value = VariantFormat::read(alloc, r)?;
@@ -67,7 +67,8 @@ impl ReadImage for CellFormat {
     }
 }
 
-/// Reads the part at the front of bytes. Returns it and its length; None if they begin with the image of none.
+/// Reads the part at the front of `bytes`. Returns it and its length in bytes; None if they begin
+/// with the image of none. Err: an allocation failed.
 fn read_front<F: ReadImage>(
     alloc: Global,
     bytes: &[u8],
@@ -91,8 +92,9 @@ struct OpenObject {
     left: u32,
 }
 
-/// The table of the objects that were read whole, the number of the last one (0 if there is none), the object that is
-/// being read, and the number of objects after it.
+/// A table that is being read. It has the objects that were read whole, and the number of the last
+/// one (0 if there is none). It also has the object that is being read, and the number of objects
+/// after it.
 #[derive(Drop)]
 struct OpenTable {
     table: Table,
@@ -101,22 +103,25 @@ struct OpenTable {
     left: u32,
 }
 
-/// Memory for up to this many cells is allocated at once. A greater count is not trusted before the cells are read.
+/// The greatest number of cells for which memory is allocated at once. A greater count is not
+/// trusted before the cells are read.
 const FEW: u32 = 8;
 
+/// Returns the number of cells for which memory is allocated at once, if an object has `count`.
 fn room_for(count: u32) -> usize {
     if count <= FEW { count as usize } else { 0 }
 }
 
+/// Returns whether a cell's place is before another one's.
 fn is_before(a: &(Place, Variant), b: &(Place, Variant)) -> bool
-    ensures { result ≡ tables.before a.now b.now }
+    ensures { result ≡ tables.place_before a.now b.now }
 {
     a.0.cmp(&b.0) == Ordering::Less
 }
 
 /// Returns whether a cell comes after the cells that were read.
 fn stands_behind(cells: &[(Place, Variant)], next: &(Place, Variant)) -> bool
-    ensures { result ≡ is_behind tables.before cells.now next.now }
+    ensures { result ≡ is_behind tables.place_before cells.now next.now }
 {
     match cells.last() {
         Some(last) => is_before(last, next),
@@ -124,14 +129,14 @@ fn stands_behind(cells: &[(Place, Variant)], next: &(Place, Variant)) -> bool
     }
 }
 
-/// Reads the cell at the front of bytes. Returns it and its length; None if there is none that may come after those
-/// that were read.
+/// Reads the cell at the front of `bytes`. Returns it and its length in bytes; None if there is
+/// none that may come after those that were read. Err: an allocation failed.
 fn next_cell(
     alloc: Global,
     cells: &[(Place, Variant)],
     bytes: &[u8],
 ) -> Result<Option<((Place, Variant), usize)>, AllocError>
-    ensures { IfOk result (λ found. BeginsWith tables.cell (λ next. is_behind tables.before cells.now next ≡ true) bytes.now found) }
+    ensures { IfOk result (λ found. BeginsWith tables.cell (λ next. is_behind tables.place_before cells.now next ≡ true) bytes.now found) }
 {
     let Some((cell, len)) = read_front::<CellFormat>(alloc, bytes)? else {
         return Ok(None);
@@ -142,8 +147,8 @@ fn next_cell(
     Ok(None)
 }
 
-/// Reads the head of an object at the front of bytes. Returns it and its length; None if its number is not between
-/// these.
+/// Reads the head of an object at the front of `bytes`. Returns it and its length in bytes; None if
+/// its number is not between `last` and `next`. Err: an allocation failed.
 fn next_object(
     alloc: Global,
     last: u32,
@@ -161,7 +166,8 @@ fn next_object(
     Ok(None)
 }
 
-/// Keeps an object while cells of it are left to be read, and then appends it to the table.
+/// Keeps an object while cells of it are left to be read, and then appends it to the table. Err: an
+/// allocation failed.
 fn keep(alloc: Global, table: &mut OpenTable, object: OpenObject) -> Result<(), AllocError>
     requires none { table.old.object ≡ None }
     requires valid { IsOpenTable (with_at_hand object table.old) }
@@ -178,7 +184,8 @@ fn keep(alloc: Global, table: &mut OpenTable, object: OpenObject) -> Result<(), 
     Ok(())
 }
 
-/// Reads the next cell of an object. Returns its length: 0 if none may come, or it is incomplete.
+/// Reads the next cell of an object. Returns its length in bytes: 0 if none may come, or it is
+/// incomplete. Err: an allocation failed.
 fn take_cell(
     alloc: Global,
     table: &mut OpenTable,
@@ -201,7 +208,8 @@ fn take_cell(
     Ok(len)
 }
 
-/// Reads the head of the next object. Returns its length: 0 if none may come, or it is incomplete.
+/// Reads the head of the next object. Returns its length in bytes: 0 if none may come, or it is
+/// incomplete. Err: an allocation failed.
 fn take_object(alloc: Global, table: &mut OpenTable, bytes: &[u8]) -> Result<usize, AllocError>
     requires none { table.old.object ≡ None }
     requires between { IsBetweenParts table.old }
@@ -227,7 +235,8 @@ fn take_object(alloc: Global, table: &mut OpenTable, bytes: &[u8]) -> Result<usi
     Ok(len)
 }
 
-/// Reads the next part of a table. Returns its length: 0 if none may come, or it is incomplete.
+/// Reads the next part of a table. Returns its length in bytes: 0 if none may come, or it is
+/// incomplete. Err: an allocation failed.
 fn take_part(alloc: Global, table: &mut OpenTable, bytes: &[u8]) -> Result<usize, AllocError>
     requires between { IsBetweenParts table.old }
     ensures takes { IfOk result (λ n. TakesPart table.old table.new bytes.now n) }
@@ -239,10 +248,10 @@ fn take_part(alloc: Global, table: &mut OpenTable, bytes: &[u8]) -> Result<usize
     }
 }
 
-/// Reads the next parts of a table. Returns their length.
+/// Reads the next parts of a table. Returns their length in bytes. Err: an allocation failed.
 fn take_parts(alloc: Global, table: &mut OpenTable, bytes: &[u8]) -> Result<usize, AllocError>
     requires between { IsBetweenParts table.old }
-    ensures takes { IfOk result (λ n. Takes (table_taken table.old) (table_taken table.new) bytes.now n) }
+    ensures takes { IfOk result (λ n. ConsumesNext (table_taken table.old) (table_taken table.new) bytes.now n) }
     ensures whole { IfOk result (λ n. TakesEnd (table_taken table.old) bytes.now n) }
     ensures between { IsBetweenParts table.new }
 {
@@ -257,8 +266,9 @@ fn take_parts(alloc: Global, table: &mut OpenTable, bytes: &[u8]) -> Result<usiz
     Ok(taken)
 }
 
-/// Reads the head of a table at the front of bytes. Returns the table without objects, and the length; None if no
-/// table has this head, or it is incomplete.
+/// Reads the head of a table at the front of `bytes`. Returns the table without objects, and the
+/// head's length in bytes; None if no table has this head, or it is incomplete. Err: an allocation
+/// failed.
 fn begin(alloc: Global, bytes: &[u8]) -> Result<Option<(OpenTable, usize)>, AllocError>
     ensures { IfOk result (λ begun. BeginsTable bytes.now begun) }
 {
@@ -303,10 +313,11 @@ impl TableReader {
         TableReader { alloc, table: None }
     }
 
-    /// Consumes bytes that follow those consumed before, and returns how many: whole parts (the head of the table or
-    /// of an object, a cell), up to the first that is incomplete or that no image has there. Pass the others again,
-    /// with the bytes that follow; at the end of an image none is left. Err: an allocation failed, and the reader is
-    /// of no more use.
+    /// Consumes bytes that follow those consumed before, and returns how many. It consumes whole
+    /// parts: the head of the table or of an object, or a cell. It ends at the first part that is
+    /// incomplete or that no image has there. Pass the others again, with the bytes that follow; at
+    /// the end of an image none is left. Err: an allocation failed, and the reader is of no more
+    /// use.
     pub fn take(&mut self, bytes: &[u8]) -> Result<usize, AllocError>
         ensures taken { IfOk result (λ n. (n ≤ length bytes.now) × (self.new ≡ self.old ++ take n bytes.now)) }
         ensures whole { IfOk result (λ n. (t : TableValue) → a_table.Is t → self.old ++ bytes.now ≡ table_image t → n ≡ length bytes.now) }
@@ -322,7 +333,8 @@ impl TableReader {
         Ok(head + parts)
     }
 
-    /// Returns the table whose image the consumed bytes are, without locks; None if they are the image of none.
+    /// Returns the table whose image the consumed bytes are, without locks; None if they are the
+    /// image of none.
     pub fn finish(self) -> Option<Table>
         ensures { MatchOption result ((t : TableValue) → a_table.Is t → self ≡ table_image t → ⊥)
             (λ t. a_table.Is t × (self ≡ table_image t)) }

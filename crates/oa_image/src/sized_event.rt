@@ -1,7 +1,7 @@
 //! Events with their length.
 ghost use Rattle.std.specs.Prelude.{◌≡◌, length};
-ghost use Rattle.oa_image.specs.Events.{event_image};
-ghost use Rattle.oa_image.specs.Sizes.{event_size};
+ghost use Rattle.oa_image.specs.promise.Events.{event_image};
+ghost use Rattle.oa_image.specs.promise.Sizes.{event_size};
 
 use crate::event::event_len;
 use oa_table::Event;
@@ -16,7 +16,7 @@ pub struct SizedEvent {
 
 impl Model for SizedEvent {
     ghost use Rattle.std.specs.Prelude.{◌≡◌, length};
-    ghost use Rattle.oa_image.specs.Events.{event_image};
+    ghost use Rattle.oa_image.specs.promise.Events.{event_image};
     ghost use Rattle.oa_table.specs.declared.event.Event.{Event};
 
     ghost Value = { Event };
@@ -27,7 +27,7 @@ impl Model for SizedEvent {
 }
 
 impl SizedEvent {
-    /// Computes the length of an event's image. Allocates nothing.
+    /// Returns an event with the length of its image, which it computes. Allocates nothing.
     #[inline(always)]
     pub fn new(event: Event) -> SizedEvent
         ensures { result ≡ event }

@@ -3,26 +3,27 @@ use Rattle.std.proofs.Common.{◌≡◌, ◌≢◌, ℕ, ◌+◌, ◌<◌, ◌�
 use Rattle.oa_disk.specs.Disk.{HasBytesAt}
 use Rattle.oa_table.specs.declared.event.Event.{Event}
 use Rattle.oa_table.specs.declared.fault.TableFault.{TableFault}
-use Rattle.oa_table.specs.Events.{applied}
-use Rattle.oa_table.specs.Tables.{TableValue, first_table, unlocked_table}
-use Rattle.oa_layout.specs.Formats.{raw, next_by, made_where, times, coded, counted, only}
-use Rattle.oa_layout.specs.Numbers.{u32}
-use Rattle.oa_layout.proofs.Exact.{one_list, one_value}
-use Rattle.oa_image.specs.Events.{event}
-use Rattle.oa_image.specs.Tables.{is_numbered, objects, table, table_image}
+use Rattle.oa_table.specs.promise.Events.{applied}
+use Rattle.oa_table.specs.promise.Tables.{TableValue, unlocked_table}
+use Rattle.oa_table.specs.Tables.{first_table}
+use Rattle.oa_formats.specs.promise.Formats.{raw, next_by, made_where, times, coded, counted, only}
+use Rattle.oa_formats.specs.promise.Numbers.{u32}
+use Rattle.oa_formats.proofs.Exact.{one_list, one_value}
+use Rattle.oa_image.specs.promise.Events.{event}
+use Rattle.oa_image.specs.promise.Tables.{is_numbered, objects, table, table_image}
 use Rattle.oa_image.proofs.Lengths.{event_bytes}
 use Rattle.oa_image.proofs.Numbered.{numbers_stay}
 use Rattle.oa_image.proofs.TablesWithImages.{same_table}
-use Rattle.oa_journal.specs.Replays.{applied_all, followed, Replays, ReplaysAll}
-use Rattle.oa_journal.specs.declared.shape.Shape.{Shape}
-use Rattle.oa_journal.specs.Shapes.{body_bytes, format_of, told_size, IsShape}
+use Rattle.oa_journal.specs.promise.Bank.{applied_all, followed, Replays, ReplaysAll, body_bytes, format_of, told_size}
+use Rattle.oa_journal.specs.promise.Bank.{IsShape, from_place, header_of, IsGroupAt, IsBank, HasHeader, start_of}
+use Rattle.oa_journal.specs.promise.Bank.{first_gate}
+use Rattle.oa_journal.specs.declared.shape.BankFormat.{BankFormat}
 use Rattle.oa_journal.proofs.Shapes.{body_small}
-use Rattle.oa_journal.specs.Bank.{from_place, header_of, IsGroupAt, IsBank, HasHeader}
 use Rattle.oa_journal.proofs.LaidOut.{gate_behind, same_head, shut_parts, same_parts, parts_with}
-use Rattle.oa_journal.specs.Fronts.{start_of, front_of}
+use Rattle.oa_journal.specs.Fronts.{front_of}
 use Rattle.oa_journal.proofs.Fronts.{front_parts, held}
 use Rattle.oa_journal.proofs.Unique.{one_head, one_layout}
-use Rattle.oa_journal.specs.Banks.{first_gate, IsSameBank}
+use Rattle.oa_journal.specs.Banks.{IsSameBank}
 
 abbrev made : TableValue → Result TableValue TableFault
 made t = Ok t
@@ -52,7 +53,7 @@ replays_more [] group old mid new all one = (new, subst (λ (t : TableValue). Re
 replays_more (first ∷ groups) group old mid new all one = (all.0, all.1, replays_more groups group all.0 mid new all.2 one)
 
 -- the head that a bank has
-pub bank_header : (shape : Shape) (head body : ℕ → ℕ) (library : List ℕ) (now : TableValue) (gate : ℕ)
+pub bank_header : (shape : BankFormat) (head body : ℕ → ℕ) (library : List ℕ) (now : TableValue) (gate : ℕ)
     (bank : IsBank shape head body library now gate)
     → HasHeader shape head (length library) (length (table_image bank.first))
 bank_header shape head body library now gate bank =
@@ -60,7 +61,7 @@ bank_header shape head body library now gate bank =
     record { known = bank.known; header = bank.header; inside = omega (arith, le, bank.parts.inside) }
 
 -- two heads, the same in their 32 bytes, and two bodies
-module _ (shape : Shape) (head other f g : ℕ → ℕ) (library : List ℕ) (now : TableValue) (gate : ℕ)
+module _ (shape : BankFormat) (head other f g : ℕ → ℕ) (library : List ℕ) (now : TableValue) (gate : ℕ)
     (heads : (i : ℕ) → i < 32 → other i ≡ head i) where
   -- What stands behind the gate does not count, nor does which byte closes the gate.
   pub shut_bank : ((i : ℕ) → i < gate → g i ≡ f i) → g gate ≢ 1 → IsBank shape head f library now gate
@@ -113,7 +114,7 @@ unfolding table objects only counted coded made_where next_by times u32 raw
 image_long t = omega arith
 
 -- a bank that was just written: its head at one place, its body at another
-pub front_bank : (shape : Shape) (at place : ℕ) (disk library : List ℕ) (now : TableValue) → IsShape shape → table.Is now
+pub front_bank : (shape : BankFormat) (at place : ℕ) (disk library : List ℕ) (now : TableValue) → IsShape shape → table.Is now
     → first_gate library now < body_bytes shape
     → HasBytesAt disk at (header_of shape (length library) (length (table_image now)))
     → HasBytesAt disk place (front_of library (table_image now))
@@ -129,7 +130,7 @@ front_bank shape at place disk library now known is fits head holds = record {
 }
 
 -- the same of a table in memory, which may have locks: a bank holds none
-pub memory_bank : (shape : Shape) (at place : ℕ) (disk library : List ℕ) (now : TableValue) → IsShape shape → table.Is (unlocked_table now)
+pub memory_bank : (shape : BankFormat) (at place : ℕ) (disk library : List ℕ) (now : TableValue) → IsShape shape → table.Is (unlocked_table now)
     → first_gate library now < body_bytes shape
     → HasBytesAt disk at (header_of shape (length library) (length (table_image now)))
     → HasBytesAt disk place (front_of library (table_image now))
@@ -163,14 +164,14 @@ unfolding table only coded
 table_numbered now is = is.1
 
 -- the head alone says which format it is
-pub same_shape : (head f g : ℕ → ℕ) (shape : Shape) (library : List ℕ) (now : TableValue) (gate : ℕ) (other : Shape) (text : List ℕ)
+pub same_shape : (head f g : ℕ → ℕ) (shape : BankFormat) (library : List ℕ) (now : TableValue) (gate : ℕ) (other : BankFormat) (text : List ℕ)
     (also : TableValue) (end : ℕ)
     → IsBank shape head f library now gate → IsBank other head g text also end → shape ≡ other
 same_shape head f g shape library now gate other text also end one two =
     (one_head head shape (length library) (length (table_image one.first)) other (length text) (length (table_image two.first))
     (bank_header shape head f library now gate one) (bank_header other head g text also end two)).shape_same
 
-pub one_bank : (shape : Shape) (head body : ℕ → ℕ) (library : List ℕ) (now : TableValue) (gate : ℕ) (text : List ℕ)
+pub one_bank : (shape : BankFormat) (head body : ℕ → ℕ) (library : List ℕ) (now : TableValue) (gate : ℕ) (text : List ℕ)
     (also : TableValue) (end : ℕ)
     → IsBank shape head body library now gate → IsBank shape head body text also end → IsSameBank shape library now gate shape text also end
 one_bank shape head body library now gate text also end one two =

@@ -1,17 +1,17 @@
 -- A bank is not damaged.
 use Rattle.std.proofs.Common.{◌≡◌, ◌≢◌, ⊎_elim, ℕ, ◌+◌, ◌^◌, ◌<◌, ◌≤◌, List, [], ◌∷◌, ◌++◌, length, sym, ◌∙◌, ap, subst, arith}
-use Rattle.oa_table.specs.Tables.{TableValue}
-use Rattle.oa_layout.proofs.Exact.{one_value}
-use Rattle.oa_image.specs.Tables.{table, table_image}
-use Rattle.oa_journal.specs.declared.shape.Shape.{Shape}
-use Rattle.oa_journal.specs.Bank.{from_place, header_of, Shows, IsGroupAt, AreGroups, IsBank, HasHeader, HasLibrary}
+use Rattle.oa_table.specs.promise.Tables.{TableValue}
+use Rattle.oa_formats.proofs.Exact.{one_value}
+use Rattle.oa_image.specs.promise.Tables.{table, table_image}
+use Rattle.oa_journal.specs.declared.shape.BankFormat.{BankFormat}
+use Rattle.oa_journal.specs.promise.Bank.{from_place, header_of, Shows, IsGroupAt, AreGroups, IsBank, HasHeader}
+use Rattle.oa_journal.specs.promise.Bank.{HasLibrary, Replays, ReplaysAll, body_bytes}
 use Rattle.oa_journal.proofs.Banks.{bank_header, one_replay}
 use Rattle.oa_journal.proofs.LaidOut.{gate_behind}
-use Rattle.oa_journal.specs.Replays.{Replays, ReplaysAll}
-use Rattle.oa_journal.specs.Shapes.{body_bytes}
 use Rattle.oa_journal.proofs.Shapes.{body_small}
 use Rattle.oa_journal.proofs.Unique.{at_open, one_head, same_bytes}
-use Rattle.oa_journal.specs.Damages.{AreGroupsTo, HasSnapshot, IsDamagedBank, IsDamagedBody, IsNoGroup}
+use Rattle.oa_journal.specs.promise.Damages.{AreGroupsTo, HasSnapshot, IsDamagedBody, IsNoGroup}
+use Rattle.oa_journal.specs.Damages.{IsDamagedBank}
 
 -- ---- groups up to a place
 
@@ -51,7 +51,7 @@ none_beyond size byte from (one ∷ before) place first mid small there makes he
 
 -- ---- a bank is not damaged
 
-pub bank_library : (shape : Shape) (head body : ℕ → ℕ) (library : List ℕ) (now : TableValue) (gate : ℕ)
+pub bank_library : (shape : BankFormat) (head body : ℕ → ℕ) (library : List ℕ) (now : TableValue) (gate : ℕ)
     → IsBank shape head body library now gate → HasLibrary shape head body library
 bank_library shape head body library now gate bank = record {
   snapshot = length (table_image bank.first);
@@ -60,14 +60,14 @@ bank_library shape head body library now gate bank = record {
 }
 
 -- bytes begin as a bank of one library
-pub one_library : (shape : Shape) (head body : ℕ → ℕ) (library other : List ℕ) → HasLibrary shape head body library
+pub one_library : (shape : BankFormat) (head body : ℕ → ℕ) (library other : List ℕ) → HasLibrary shape head body library
     → HasLibrary shape head body other → library ≡ other
 one_library shape head body library other one two =
     let heads = one_head head shape (length library) one.snapshot shape (length other) two.snapshot one.has two.has in
     same_bytes body 0 library other heads.library_same one.text two.text
 
 -- what stands behind a library that it begins with
-module _ (shape : Shape) (head body : ℕ → ℕ) (library : List ℕ) (l s : ℕ) (first : TableValue) (has : HasLibrary shape head body library)
+module _ (shape : BankFormat) (head body : ℕ → ℕ) (library : List ℕ) (l s : ℕ) (first : TableValue) (has : HasLibrary shape head body library)
     (snapshot : HasSnapshot shape head body l s first) where
   -- it is as long as the head of the snapshot tells
   pub library_long : length library ≡ l
@@ -95,14 +95,14 @@ module _ (shape : Shape) (head body : ℕ → ℕ) (library : List ℕ) (l s : �
       }
 
 -- the lengths of its parts are those of any head that it has
-pub bank_lengths : (shape : Shape) (head body : ℕ → ℕ) (library : List ℕ) (now : TableValue) (gate l s : ℕ) → HasHeader shape head l s
+pub bank_lengths : (shape : BankFormat) (head body : ℕ → ℕ) (library : List ℕ) (now : TableValue) (gate l s : ℕ) → HasHeader shape head l s
     → (bank : IsBank shape head body library now gate) → (length library ≡ l) × (length (table_image bank.first) ≡ s)
 bank_lengths shape head body library now gate l s has bank =
     let heads = one_head head shape (length library) (length (table_image bank.first)) shape l s
     (bank_header shape head body library now gate bank) has in
     (heads.library_same, heads.snapshot_same)
 
-pub bank_snapshot : (shape : Shape) (head body : ℕ → ℕ) (library : List ℕ) (now : TableValue) (gate l s : ℕ) → HasHeader shape head l s
+pub bank_snapshot : (shape : BankFormat) (head body : ℕ → ℕ) (library : List ℕ) (now : TableValue) (gate l s : ℕ) → HasHeader shape head l s
     → (bank : IsBank shape head body library now gate) → HasSnapshot shape head body l s bank.first
 bank_snapshot shape head body library now gate l s has bank =
     let long = bank_lengths shape head body library now gate l s has bank in
@@ -114,7 +114,7 @@ bank_snapshot shape head body library now gate l s has bank =
     }
 
 -- so it begins with the table of any snapshot that it has
-pub bank_first : (shape : Shape) (head body : ℕ → ℕ) (library : List ℕ) (now : TableValue) (gate l s : ℕ) (first : TableValue)
+pub bank_first : (shape : BankFormat) (head body : ℕ → ℕ) (library : List ℕ) (now : TableValue) (gate l s : ℕ) (first : TableValue)
     → HasSnapshot shape head body l s first
     → (bank : IsBank shape head body library now gate) → bank.first ≡ first
 bank_first shape head body library now gate l s first has bank =
@@ -122,7 +122,7 @@ bank_first shape head body library now gate l s first has bank =
     one_value table bank.first first bank.is has.is (same_bytes body l (table_image bank.first) (table_image first)
     (own.long ∙ sym has.long) own.image has.image)
 
-pub not_damaged : (shape : Shape) (head body : ℕ → ℕ) (place : ℕ) (library : List ℕ) (now : TableValue) (gate : ℕ)
+pub not_damaged : (shape : BankFormat) (head body : ℕ → ℕ) (place : ℕ) (library : List ℕ) (now : TableValue) (gate : ℕ)
     → IsDamagedBody shape head body place
     → IsBank shape head body library now gate → ⊥
 not_damaged shape head body place library now gate damaged bank = ⊎_elim
@@ -131,13 +131,14 @@ not_damaged shape head body place library now gate damaged bank = ⊎_elim
     let long = bank_lengths shape head body library now gate rest.0 rest.1 rest.3.has bank in
     let first = bank_first shape head body library now gate rest.0 rest.1 rest.2 rest.3 bank in
     let at : length library + length (table_image bank.first) ≡ rest.0 + rest.1 = omega (arith, long.0, long.1) in
-    none_beyond (body_bytes shape) body (rest.0 + rest.1) rest.4.groups place rest.2 rest.4.now (omega (arith, body_small shape bank.known)) rest.4.there rest.4.makes rest.4.inside rest.4.stops
+    none_beyond (body_bytes shape) body (rest.0 + rest.1) rest.4.groups place rest.2 rest.4.now (omega (arith, body_small shape bank.known)) rest.4.there
+    rest.4.makes rest.4.inside rest.4.stops
     bank.groups now gate (subst (λ (k : ℕ). AreGroups body k bank.groups gate) at bank.parts.behind)
     (subst (λ (t : TableValue). ReplaysAll bank.groups t now) first bank.makes) bank.parts.inside)
     damaged
 
 -- nor is a disk that has it
-pub bank_not_damaged : (shape : Shape) (head body : ℕ) (disk : List ℕ) (at : ℕ) (library : List ℕ) (now : TableValue) (gate : ℕ)
+pub bank_not_damaged : (shape : BankFormat) (head body : ℕ) (disk : List ℕ) (at : ℕ) (library : List ℕ) (now : TableValue) (gate : ℕ)
     → IsDamagedBank shape head body disk at
     → IsBank shape (from_place head disk) (from_place body disk) library now gate → ⊥
 bank_not_damaged shape head body disk at library now gate damaged bank = ⊎_elim

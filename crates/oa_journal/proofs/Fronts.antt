@@ -2,8 +2,8 @@
 use Rattle.std.proofs.Common.{◌≡◌, ℕ, ◌+◌, ◌<◌, List, [], ◌∷◌, ◌++◌, length, get_or, refl, sym, ◌∙◌, ap, arith}
 use Rattle.oa_disk.specs.Disk.{HasBytesAt}
 use Rattle.oa_disk.proofs.Ranges.{Holds-front, Holds-behind, Holds-next}
-use Rattle.oa_journal.specs.Bank.{from_place, Shows, IsLaidOut}
-use Rattle.oa_journal.specs.Fronts.{start_of, front_of}
+use Rattle.oa_journal.specs.promise.Bank.{from_place, Shows, IsLaidOut, start_of}
+use Rattle.oa_journal.specs.Fronts.{front_of}
 
 -- bytes that a disk holds are shown from the place of the head or of the body on
 pub held : (place at to : ℕ) (disk bytes : List ℕ) → to ≡ place + at → HasBytesAt disk to bytes → Shows (from_place place disk) at bytes

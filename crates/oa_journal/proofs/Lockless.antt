@@ -2,24 +2,23 @@
 use Rattle.std.proofs.Common.{◌≡◌, ℕ, List, [], ◌∷◌, map, Result, Ok, Err, refl, sym, ap, subst, ◌∙◌}
 use Rattle.std.specs.List.{AllByRecursion}
 use Rattle.std.specs.Map.{values_of}
-use Rattle.oa_array.specs.Arrays.{with_locks}
-use Rattle.oa_variant.specs.Variants.{unlocked}
+use Rattle.oa_array.specs.promise.Arrays.{with_locks}
+use Rattle.oa_variant.specs.promise.Variants.{unlocked}
 use Rattle.oa_variant.specs.declared.variant.Variant.{Variant}
 use Rattle.oa_variant.specs.declared.variant.Variant.TheVariants.{One, Array}
 use Rattle.oa_table.specs.declared.event.Event.{Event}
 use Rattle.oa_table.specs.declared.fault.TableFault.{TableFault}
-use Rattle.oa_table.specs.Elements.{locks_of}
-use Rattle.oa_table.specs.Events.{applied}
-use Rattle.oa_table.specs.Places.{PlaceValue}
-use Rattle.oa_table.specs.Tables.{ObjectValue, TableValue, unlocked_cell, unlocked_entry, unlocked_table}
+use Rattle.oa_table.specs.promise.Elements.{locks_of}
+use Rattle.oa_table.specs.promise.Events.{applied}
+use Rattle.oa_table.specs.promise.Places.{PlaceValue}
+use Rattle.oa_table.specs.promise.Tables.{ObjectValue, TableValue, unlocked_cell, unlocked_entry, unlocked_table}
 use Rattle.oa_table.proofs.Unlocked.{event_follows}
-use Rattle.oa_image.specs.Events.{event}
-use Rattle.oa_image.specs.Tables.{object, table}
+use Rattle.oa_image.specs.promise.Events.{event}
+use Rattle.oa_image.specs.promise.Tables.{object, table}
 use Rattle.oa_image.proofs.Unlocked.{brings_none}
 use Rattle.oa_image.proofs.TablesWithImages.{each_value, object_parts, table_parts}
-use Rattle.oa_journal.specs.Replays.{Replays, ReplaysAll, applied_all, followed}
-use Rattle.oa_journal.specs.declared.shape.Shape.{Shape}
-use Rattle.oa_journal.specs.Bank.{IsBank}
+use Rattle.oa_journal.specs.promise.Bank.{Replays, ReplaysAll, applied_all, followed, IsBank}
+use Rattle.oa_journal.specs.declared.shape.BankFormat.{BankFormat}
 
 value_stays : (value : Variant) → locks_of value ≡ 0 → unlocked value ≡ value
 value_stays (One s) h = refl
@@ -57,12 +56,14 @@ event_unlocked e old new is same makes =
     let follows : applied e (unlocked_table old) ≡ made (unlocked_table new) = rw makes at (event_follows e old (brings_none e is)) in
     same_made (unlocked_table new) new (sym follows ∙ ap (applied e) same ∙ makes)
 
-events_unlocked : (es : List Event) (old new : TableValue) → AllByRecursion event.Is es → unlocked_table old ≡ old → applied_all es old ≡ made new → unlocked_table new ≡ new
+events_unlocked : (es : List Event) (old new : TableValue) → AllByRecursion event.Is es → unlocked_table old ≡ old → applied_all es old ≡ made new
+    → unlocked_table new ≡ new
 events_unlocked [] old new all same makes = subst (λ t. unlocked_table t ≡ t) (same_made old new makes) same
 events_unlocked (e ∷ es) old new all same makes = by (applied e old) refl makes (events_unlocked es)
   where
     by : (r : Result TableValue TableFault) → applied e old ≡ r → followed (λ next. applied_all es next) r ≡ made new
-        → ((mid last : TableValue) → AllByRecursion event.Is es → unlocked_table mid ≡ mid → applied_all es mid ≡ made last → unlocked_table last ≡ last) → unlocked_table new ≡ new
+        → ((mid last : TableValue) → AllByRecursion event.Is es → unlocked_table mid ≡ mid → applied_all es mid ≡ made last → unlocked_table last ≡ last)
+        → unlocked_table new ≡ new
     by (Ok mid) is rest next = next mid new all.1 (event_unlocked e old mid all.0 same is) rest
     by (Err fault) is rest next = absurd cc
 
@@ -74,6 +75,6 @@ groups_unlocked : (groups : List (List ℕ)) (old new : TableValue) → unlocked
 groups_unlocked [] old new same is = subst (λ t. unlocked_table t ≡ t) is same
 groups_unlocked (group ∷ groups) old new same is = groups_unlocked groups is.0 new (group_unlocked group old is.0 is.1 same) is.2
 
-pub no_locks : (shape : Shape) (head body : ℕ → ℕ) (library : List ℕ) (now : TableValue) (gate : ℕ)
+pub no_locks : (shape : BankFormat) (head body : ℕ → ℕ) (library : List ℕ) (now : TableValue) (gate : ℕ)
     → IsBank shape head body library now gate → unlocked_table now ≡ now
 no_locks shape head body library now gate bank = groups_unlocked bank.groups bank.first now (image_unlocked bank.first bank.is) bank.makes

@@ -7,7 +7,7 @@ use Rattle.oa_journal.specs.declared.bank.BankFault.TheVariants.{Damaged, Device
 use Rattle.oa_journal.specs.Append.{IsAt}
 use Rattle.oa_journal.specs.BankCalls.{RefusesBank}
 use Rattle.oa_journal.specs.Reads.{AfterReads, reads_on}
-use Rattle.oa_journal.specs.Replies.{IsCaused}
+use Rattle.oa_journal.specs.Replies.{IsCausedBankFault}
 
 module _ {D : Type 0} (g : Ghosts D) {old : D} where
   -- the first has ended well
@@ -23,7 +23,7 @@ module _ {D : Type 0} (g : Ghosts D) {old : D} where
       unfailed = subst (λ (n : ℕ). OnOk result (g.failures_of new ≡ n)) one.calls.unfailed two.calls.unfailed;
     };
     device = two.device;
-    cause = subst (λ (n : ℕ). IfErr result (IsCaused n (g.failures_of new))) one.calls.unfailed two.cause;
+    cause = subst (λ (n : ℕ). IfErr result (IsCausedBankFault n (g.failures_of new))) one.calls.unfailed two.cause;
     most = λ h. omega (arith, one.most (two.calls.honest h), two.most h, le);
   }
 
@@ -58,5 +58,5 @@ module _ {D : Type 0} (g : Ghosts D) {old : D} where
         let told : fault ≡ Device why = cc in
         let one = refused.device why (ap (λ (x : BankFault). Err x) told) in
         (subst (λ (b : Bank). IsAt b.shape b.head b.body b.gate true after) is one.0, one.1);
-    cause = subst (λ (n : ℕ). IsCaused n (g.failures_of new) fault) unfailed refused.cause;
+    cause = subst (λ (n : ℕ). IsCausedBankFault n (g.failures_of new) fault) unfailed refused.cause;
   }

@@ -5,20 +5,19 @@ use Rattle.oa_disk.specs.Disk.{HasBytesAt, LeavesStep}
 use Rattle.oa_disk.specs.declared.disk.DeviceFault.{DeviceFault}
 use Rattle.oa_disk.specs.declared.disk.DeviceFault.TheVariants.{Read}
 use Rattle.oa_disk.specs.declared.disk.Disk.{Ghosts}
-use Rattle.oa_image.specs.Tables.{is_numbered}
+use Rattle.oa_image.specs.promise.Tables.{is_numbered}
 use Rattle.oa_journal.specs.Append.{IsAt, TornBank}
-use Rattle.oa_journal.specs.Bank.{from_place, HasHead, HasLibrary, IsBank}
-use Rattle.oa_journal.specs.Banks.{first_gate}
-use Rattle.oa_journal.specs.Damages.{IsDamagedHead}
-use Rattle.oa_journal.specs.Replies.{IsCaused}
-use Rattle.oa_journal.specs.Shapes.{body_bytes, disk_bytes, IsShape}
+use Rattle.oa_journal.specs.promise.Bank.{from_place, HasHead, HasLibrary, IsBank, first_gate, body_bytes, disk_bytes}
+use Rattle.oa_journal.specs.promise.Bank.{IsShape}
+use Rattle.oa_journal.specs.promise.Damages.{IsDamagedHead}
+use Rattle.oa_journal.specs.Replies.{IsCausedBankFault}
 use Rattle.oa_journal.specs.declared.bank.AppendFault.{AppendFault}
 use Rattle.oa_journal.specs.declared.bank.AppendFault.TheVariants as appends
 use Rattle.oa_journal.specs.declared.bank.Bank.{Bank}
 use Rattle.oa_journal.specs.declared.bank.BankFault.{BankFault}
 use Rattle.oa_journal.specs.declared.bank.BankFault.TheVariants.{Damaged, Device, Memory}
-use Rattle.oa_journal.specs.declared.head.Head.{Head}
-use Rattle.oa_table.specs.Tables.{TableValue, unlocked_table}
+use Rattle.oa_journal.specs.declared.head.BankHead.{BankHead}
+use Rattle.oa_table.specs.promise.Tables.{TableValue, unlocked_table}
 
 -- head and body lie on a disk of this size
 pub record LiesWithin (size : ℕ) (bank : Bank) : Type 0 where
@@ -70,7 +69,7 @@ pub record RefusesBank {D T : Type 0} (g : Ghosts D) (damage : ℕ → Type 0) (
   pub memory : IsErrOf result Memory → after ≡ before
   pub device : (fault : DeviceFault) → IsErrOf result (Device fault)
       → IsAt before.shape before.head before.body before.gate true after × (fault ≡ Read)
-  pub cause : IfErr result (IsCaused (g.failures_of old) (g.failures_of new))
+  pub cause : IfErr result (IsCausedBankFault (g.failures_of old) (g.failures_of new))
 
 -- The bank was read: this library, and this table after its groups. It knows its closed gate, and is otherwise
 -- unchanged.
@@ -101,7 +100,7 @@ pub record ReadsTable {D : Type 0} (g : Ghosts D) (before after : Bank) (old new
       → g.moment new + length library ≤ g.moment old + (4 + after.gate)
 
 -- The head of a bank is at this place, and the disk is large enough for two such banks.
-pub record FindsHead {D : Type 0} (g : Ghosts D) (place : ℕ) (old new : D) (head : Head) : Type 0 where
+pub record FindsHead {D : Type 0} (g : Ghosts D) (place : ℕ) (old new : D) (head : BankHead) : Type 0 where
   pub found : IsTrue (g.is_honest new) → HasHead head.shape place (g.contents old) head.library head.snapshot
   pub known : IsShape head.shape × (head.library + head.snapshot < body_bytes head.shape)
   pub room : disk_bytes head.shape ≤ g.size_of old
@@ -113,7 +112,7 @@ pub record RefusesHead {D T : Type 0} (g : Ghosts D) (place : ℕ) (old new : D)
       → (at ≡ place) × (IsTrue (g.is_honest new) → IsDamagedHead place (g.contents old))
   pub memory : IsErrOf result Memory → ⊥
   pub device : (fault : DeviceFault) → IsErrOf result (Device fault) → fault ≡ Read
-  pub cause : IfErr result (IsCaused (g.failures_of old) (g.failures_of new))
+  pub cause : IfErr result (IsCausedBankFault (g.failures_of old) (g.failures_of new))
 
 -- The group of a batch does not fit, or the bank has stopped: nothing has changed.
 pub record RefusesGroup {D T : Type 0} (batch : List ℕ) (before after : Bank) (old new : D)

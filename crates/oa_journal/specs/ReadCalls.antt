@@ -2,13 +2,12 @@
 use Rattle.std.specs.Prelude.{◌≡◌, ℕ, ◌+◌, ◌<◌, ◌≤◌, true, IsTrue, List, length, take, slice_index}
 use Rattle.oa_disk.specs.Disk.{HasBytesAt}
 use Rattle.oa_disk.specs.declared.disk.Disk.{Ghosts}
-use Rattle.oa_image.specs.Tables.{is_numbered}
-use Rattle.oa_table.specs.Tables.{TableValue, unlocked_table}
+use Rattle.oa_image.specs.promise.Tables.{is_numbered}
+use Rattle.oa_table.specs.promise.Tables.{TableValue, unlocked_table}
 use Rattle.oa_journal.specs.declared.ahead.DiskAhead.{DiskAhead}
-use Rattle.oa_journal.specs.declared.shape.Shape.{Shape}
-use Rattle.oa_journal.specs.Bank.{from_place, AreGroups, HasLibrary, IsBank, IsGroupAt}
-use Rattle.oa_journal.specs.Replays.{Replays, ReplaysAll}
-use Rattle.oa_journal.specs.Shapes.{body_bytes}
+use Rattle.oa_journal.specs.declared.shape.BankFormat.{BankFormat}
+use Rattle.oa_journal.specs.promise.Bank.{from_place, AreGroups, HasLibrary, IsBank, IsGroupAt, Replays, ReplaysAll}
+use Rattle.oa_journal.specs.promise.Bank.{body_bytes}
 
 -- ---- what is required
 
@@ -65,7 +64,8 @@ pub record FindsGroups {D : Type 0} (g : Ghosts D) (body size from : ℕ) (first
 
 -- The table of the bank with that head and that body, whichever library it begins with, and its closed gate: at most
 -- two calls, and one for every two bytes of snapshot and groups.
-pub record FindsTable {D : Type 0} (g : Ghosts D) (shape : Shape) (head body : ℕ) (old new : D) (table : TableValue)
+pub record FindsTable {D : Type 0} (g : Ghosts D) (shape : BankFormat) (head body : ℕ) (old new : D)
+    (table : TableValue)
     (gate : ℕ) : Type 0 where
   pub found : IsTrue (g.is_honest new) → (library : List ℕ)
       → HasLibrary shape (from_place head (g.contents old)) (from_place body (g.contents old)) library

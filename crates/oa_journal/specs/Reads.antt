@@ -1,22 +1,15 @@
--- Calls that write nothing. (This project's choice.)
+-- Definitions for contracts and proofs, beside promise/Bank.
 use Rattle.std.proofs.Common.{◌≡◌, ℕ, ◌+◌, ◌≤◌, IsTrue, List, Result, IfErr, ◌∙◌}
 use Rattle.std.specs.Prelude.{IsErrOf}
 use Rattle.oa_disk.specs.After.{AfterCalls}
-use Rattle.oa_disk.specs.Disk.{LeavesOnly}
 use Rattle.oa_disk.specs.Moments.{chained}
 use Rattle.oa_disk.specs.declared.disk.DeviceFault.{DeviceFault}
 use Rattle.oa_disk.specs.declared.disk.DeviceFault.TheVariants.{Read}
 use Rattle.oa_disk.specs.declared.disk.Disk.{Ghosts}
 use Rattle.oa_journal.specs.declared.bank.BankFault.{BankFault}
 use Rattle.oa_journal.specs.declared.bank.BankFault.TheVariants.{Device}
-use Rattle.oa_journal.specs.Replies.{IsCaused}
-
--- At each point in time of the calls, each image is one of those at their start.
-pub record WritesNothing {D : Type 0} (image : D → List ℕ → Type 0) (moment : D → ℕ)
-    (image_since : D → ℕ → List ℕ → Type 0)
-    (old new : D) : Type 0 where
-  pub images : (c : List ℕ) → image new c → image old c
-  pub moments : LeavesOnly moment image_since old new (image old)
+use Rattle.oa_journal.specs.Replies.{IsCausedBankFault}
+use Rattle.oa_journal.specs.promise.Bank.{WritesNothing}
 
 -- Besides, the contents do not change; after a failed sync they are not known.
 pub record OnlyReads {D : Type 0} (contents : D → List ℕ) (image : D → List ℕ → Type 0) (moment : D → ℕ)
@@ -30,7 +23,7 @@ pub record AfterReads {D T : Type 0} (g : Ghosts D) (moments : ℕ) (old new : D
   pub reads : IsTrue (g.is_honest new) → OnlyReads g.contents g.image g.moment g.image_since old new
   pub calls : AfterCalls g old new result
   pub device : (fault : DeviceFault) → IsErrOf result (Device fault) → fault ≡ Read
-  pub cause : IfErr result (IsCaused (g.failures_of old) (g.failures_of new))
+  pub cause : IfErr result (IsCausedBankFault (g.failures_of old) (g.failures_of new))
   pub most : IsTrue (g.is_honest new) → g.moment new ≤ g.moment old + moments
 
 module _ {D : Type 0} (image : D → List ℕ → Type 0) (moment : D → ℕ) (image_since : D → ℕ → List ℕ → Type 0) where

@@ -1,15 +1,15 @@
 -- The results of applying groups of events. (This project's choice.)
 use Rattle.std.specs.Prelude.{◌≡◌, ℕ, List, Result, Ok, Err, ⊤}
-use Rattle.oa_disk.specs.Disk.{HasCounted}
-use Rattle.oa_layout.specs.declared.fault.ImageFault.{ImageFault}
-use Rattle.oa_layout.specs.declared.fault.ImageFault.TheVariants as images
+use Rattle.oa_disk.specs.promise.Disk.{HasCounted}
+use Rattle.oa_formats.specs.declared.fault.ImageFault.{ImageFault}
+use Rattle.oa_formats.specs.declared.fault.ImageFault.TheVariants as images
 use Rattle.oa_table.specs.declared.event.Event.{Event}
 use Rattle.oa_table.specs.declared.fault.TableFault.{TableFault}
 use Rattle.oa_table.specs.declared.fault.TableFault.TheVariants as tables
-use Rattle.oa_table.specs.Tables.{TableValue}
+use Rattle.oa_table.specs.promise.Tables.{TableValue}
 use Rattle.oa_journal.specs.declared.bank.BankFault.{BankFault}
 use Rattle.oa_journal.specs.declared.bank.BankFault.TheVariants as banks
-use Rattle.oa_journal.specs.Replays.{applied_all, Replays}
+use Rattle.oa_journal.specs.promise.Bank.{applied_all, Replays}
 
 -- there is no new table; nothing is stated if an allocation failed
 abbrev pub IsRefused : TableFault → Result TableValue TableFault → Type 0
@@ -33,7 +33,7 @@ of_change tables.Memory place = images.Memory
 of_change fault place = images.Damaged place
 
 -- a fault of the device is returned only if a call has failed, and any other only if none has
-abbrev pub IsCaused : ℕ → ℕ → BankFault → Type 0
-IsCaused before now (banks.Damaged place) = now ≡ before
-IsCaused before now (banks.Device fault) = HasCounted before now
-IsCaused before now banks.Memory = now ≡ before
+abbrev pub IsCausedBankFault : ℕ → ℕ → BankFault → Type 0
+IsCausedBankFault before now (banks.Damaged place) = now ≡ before
+IsCausedBankFault before now (banks.Device fault) = HasCounted before now
+IsCausedBankFault before now banks.Memory = now ≡ before

@@ -2,8 +2,8 @@
 use Rattle.std.specs.Prelude.{◌≡◌, ℕ, ◌+◌, ◌-◌, ◌<◌, ◌≤◌, IsTrue, List, [], ◌++◌, length}
 use Rattle.oa_disk.specs.Disk.{HasBytesAt}
 use Rattle.oa_disk.specs.declared.disk.Disk.{Ghosts}
-use Rattle.oa_image.specs.Tables.{table, table_image}
-use Rattle.oa_table.specs.Tables.{TableValue}
+use Rattle.oa_image.specs.promise.Tables.{table, table_image}
+use Rattle.oa_table.specs.promise.Tables.{TableValue}
 
 -- how many bytes of a snapshot are read at once, unless a part of it is longer
 abbrev pub stretch_bytes : ℕ

@@ -7,7 +7,8 @@ ghost use Rattle.oa_journal.specs.Reads.{AfterReads};
 use crate::BankFault;
 use oa_disk::Disk;
 
-/// Reads `count` bytes of a disk from `at` on into the front of a buffer.
+/// Reads `count` bytes of a disk from place `at` on into the front of a buffer. Err: the read
+/// failed.
 fn read_front<D: Disk>(
     disk: &mut D,
     at: u64,
@@ -40,7 +41,7 @@ pub(crate) struct DiskAhead {
 impl DiskAhead {
     ghost use Rattle.oa_journal.specs.ReadCalls.{IsAhead, StaysAhead};
 
-    /// Makes a reader over this buffer that has read nothing.
+    /// Makes a reader over this buffer, of at least 5 bytes, that has read nothing.
     pub(crate) fn over(buffer: Vec<u8>) -> DiskAhead
         requires { 5 ≤ length buffer.items }
         ensures shown { (disk : List ℕ) → HasBytesAt disk result.from (take result.len result.buffer.items) }
@@ -68,8 +69,9 @@ impl DiskAhead {
         count <= self.buffer.len()
     }
 
-    /// Reads ahead unless all bytes of that range are in the buffer: as many bytes as fit, up to the end. Allocates
-    /// nothing.
+    /// Puts the `count` bytes from place `at` of the disk on into the buffer, unless they are
+    /// there. It then reads what fits into the buffer, up to place `end`. Allocates nothing. Err:
+    /// the read failed.
     pub(crate) fn cover<D: Disk>(
         &mut self,
         disk: &mut D,
@@ -109,7 +111,7 @@ impl DiskAhead {
         Ok(())
     }
 
-    /// Returns the bytes of a range that is in the buffer.
+    /// Returns the `count` bytes from place `at` of the disk on, which are in the buffer.
     pub(crate) fn seen(&self, at: u64, count: usize) -> &[u8]
         requires low { self.now.from ≤ at }
         requires high { at + count ≤ self.now.from + self.now.len }

@@ -3,14 +3,13 @@ ghost use Rattle.std.specs.Prelude.{◌≡◌, ◌+◌, ◌-◌, ◌^◌, ◌<�
 ghost use Rattle.std.specs.Int.{div_ceil};
 ghost use Rattle.oa_disk.specs.After.{AfterAttempt, AfterCalls, AfterWrites, Leaves};
 ghost use Rattle.oa_disk.specs.declared.disk.DeviceFault.{DeviceFault};
-ghost use Rattle.oa_image.specs.Tables.{is_numbered};
-ghost use Rattle.oa_journal.specs.Bank.{from_place, Apart, HasLibrary};
-ghost use Rattle.oa_journal.specs.Banks.{first_gate};
+ghost use Rattle.oa_image.specs.promise.Tables.{is_numbered};
+ghost use Rattle.oa_journal.specs.promise.Bank.{from_place, HasLibrary, first_gate, body_bytes, IsShape};
+ghost use Rattle.oa_journal.specs.Bank.{Apart};
 ghost use Rattle.oa_journal.specs.Damages.{HasNoHeader, IsDamagedBank};
 ghost use Rattle.oa_journal.specs.Reads.{OnlyReads};
-ghost use Rattle.oa_journal.specs.Shapes.{body_bytes, IsShape};
 
-use crate::Shape;
+use crate::BankFormat;
 use crate::batch::{append_group, lay_out};
 use crate::layout::{BodyBytes, header_bytes};
 use crate::reading::{library_at, table_at};
@@ -37,8 +36,8 @@ pub enum AppendFault {
 /// Why a bank could not be read.
 #[derive(Clone, Copy, Debug, PartialEq, Eq, Error)]
 pub enum BankFault {
-    /// It is not a bank. The number is the place on the disk of the first invalid part: the head, the snapshot, or
-    /// the gate of a group.
+    /// It is not a bank. The number is the place on the disk of the first invalid part: the head,
+    /// the snapshot, or the gate of a group.
     #[error("damaged at {0}")]
     Damaged(u64),
     /// The device failed a call.
@@ -69,11 +68,11 @@ impl From<DeviceFault> for BankFault {
     }
 }
 
-/// A bank on a disk, which is passed to each call: its format, the places of its head and its body, and the place of
-/// the closed gate in the body.
+/// A bank on a disk, which is passed to each call: its format, the places of its head and its body,
+/// and the place of the closed gate in the body.
 #[derive(Drop, Debug, PartialEq, Eq)]
 pub struct Bank {
-    shape: Shape,
+    shape: BankFormat,
     head: u64,
     body: u64,
     gate: u32,
@@ -91,10 +90,10 @@ impl Bank {
     ghost use Rattle.oa_journal.specs.Append.{group_of, IsAt, IsWithOrWithout, IsWith};
     ghost use Rattle.oa_journal.specs.BankCalls.{LiesWithin, MovesGate, ReadsBank, ReadsTable, RefusesBank, RefusesGroup, WritesBank};
 
-    /// Makes the bank of that format with its head and its body at these places of a disk. A bank of format 1 can
-    /// only be read, for a dump or an upgrade. Until the bank is written or read, its free space is 1 byte: no group
-    /// fits.
-    pub fn at(head: u64, body: u64, shape: Shape) -> Bank
+    /// Makes the bank of that format with its head and its body at these places of a disk, in bytes
+    /// from its start. A bank of format 1 can only be read, for a dump or an upgrade. Until the
+    /// bank is written or read, its free space is 1 byte: no group fits.
+    pub fn at(head: u64, body: u64, shape: BankFormat) -> Bank
         requires known { IsShape shape }
         requires on_a_disk { head + 32 < 2 ^ 63 }
         requires body_on_a_disk { body + body_bytes shape < 2 ^ 63 }
@@ -110,8 +109,8 @@ impl Bank {
         }
     }
 
-    /// Returns how many bytes the body has from the closed gate on. A group of n bytes uses n + 5 of them, and at
-    /// least one is left.
+    /// Returns how many bytes the body has from the closed gate on. A group of n bytes uses n + 5
+    /// of them, and at least one is left.
     pub fn room(&self) -> u32
         ensures { result ≡ body_bytes self.now.shape - self.now.gate }
     {
@@ -125,9 +124,10 @@ impl Bank {
         self.shape.body_bytes()
     }
 
-    /// Writes a bank with this library and table, without groups and without locks: the head in one write, the body
-    /// in writes as long as the buffer. Until the next sync, a crash may leave any bytes there. Allocates nothing.
-    /// After an `Err` the bank has stopped; `Ok` does not change whether it has.
+    /// Writes a bank with this library and table, without groups and without locks: the head in one
+    /// write, the body in writes as long as the buffer. Until the next sync, a crash may leave any
+    /// bytes there. Allocates nothing. Err: a write failed, and the bank has stopped; `Ok` does not
+    /// change whether it has.
     pub fn start<D: Disk>(
         &mut self,
         disk: &mut D,
@@ -166,8 +166,8 @@ impl Bank {
         }
     }
 
-    /// Reads the bank's library, but neither snapshot nor groups. Errors: `Damaged` for the head; `Memory`; `Device`,
-    /// after which the bank has stopped.
+    /// Reads the bank's library, but neither snapshot nor groups. Errors: `Damaged` for the head;
+    /// `Memory`; `Device`, after which the bank has stopped.
     pub fn read_library<D: Disk>(
         &mut self,
         alloc: Global,
@@ -195,9 +195,10 @@ impl Bank {
         read
     }
 
-    /// Reads the bank's table after its groups, through `buffer`, which is returned with its full length; the library
-    /// is skipped. The bank then knows the place of its closed gate. Errors: `Damaged` with the place on the disk of
-    /// the first invalid part; `Memory`; `Device`, after which the bank has stopped.
+    /// Reads the bank's table after its groups, through `buffer`, which is returned with its full
+    /// length; the library is skipped. The bank then knows the place of its closed gate. Errors:
+    /// `Damaged` with the place on the disk of the first invalid part; `Memory`; `Device`, after
+    /// which the bank has stopped.
     pub fn read_table<D: Disk>(
         &mut self,
         alloc: Global,
@@ -229,7 +230,8 @@ impl Bank {
         }
     }
 
-    /// Reads the bank: its library, and its table as `read_table` does, with the same errors.
+    /// Returns the bank's library, and its table as `read_table` does, with the same errors.
+    /// `buffer` is returned, too.
     pub fn read_all<D: Disk>(
         &mut self,
         alloc: Global,
@@ -254,7 +256,7 @@ impl Bank {
         Ok((library, table, buffer))
     }
 
-    /// Stops the bank if the fault is the device's.
+    /// Stops the bank if the fault is `Device`.
     fn stop_after(&mut self, fault: BankFault)
         ensures same { (at : ℕ) → fault ≡ BankFault.Damaged at → self.new ≡ self.old }
         ensures memory { fault ≡ BankFault.Memory → self.new ≡ self.old }
@@ -265,14 +267,16 @@ impl Bank {
         }
     }
 
-    /// Appends a group in four calls of the disk: after a crash it is in the bank whole or not at all. The group is
-    /// in `batch` between four free bytes and one, and only these may change. Allocates nothing. Errors: `Full`,
-    /// `Stopped`; `Device`, after which, and only then, the bank has stopped.
+    /// Appends a group in four calls of the disk: after a crash it is in the bank whole or not at
+    /// all. The group is in `batch` between four free bytes and one, and only these may change.
+    /// Allocates nothing. Errors: `Full`, `Stopped`; `Device`, after which, and only then, the bank
+    /// has stopped.
     pub fn append<D: Disk>(&mut self, disk: &mut D, batch: &mut [u8]) -> Result<(), AppendFault>
         requires some { 5 < length batch.old }
         requires inside { self.old.body + body_bytes self.old.shape ≤ D.size_of disk.old }
 
-        // (a crash at any point in time leaves an earlier image with the group or without it, and at `Ok` with it)
+        // (a crash at any point in time leaves an earlier image with the group or without it, and
+        // at `Ok` with it)
         ensures leaves { Leaves D.Disk (IsWithOrWithout self.old.shape self.old.head self.old.body self.old.gate (group_of batch.old))
             (IsWith self.old.shape self.old.head self.old.body self.old.gate (group_of batch.old)) disk.old disk.new result }
         ensures gate { OnOk result (IsAt self.old.shape self.old.head self.old.body (self.old.gate + length batch.old) false self.new) }

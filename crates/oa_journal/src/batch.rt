@@ -2,7 +2,8 @@
 ghost use Rattle.std.specs.Prelude.{◌≡◌, ◌+◌, ◌^◌, ◌<◌, ◌≤◌, IsTrue, length, OnOk, IfOk};
 ghost use Rattle.std.specs.Int.{div_ceil};
 ghost use Rattle.oa_disk.specs.After.{AfterWrites};
-ghost use Rattle.oa_disk.specs.Disk.{LeavesStep, Follows};
+ghost use Rattle.oa_disk.specs.Disk.{LeavesStep};
+ghost use Rattle.oa_disk.specs.promise.Disk.{Follows};
 ghost use Rattle.oa_disk.specs.Switch.{MaySwitch, HasSwitched};
 ghost use Rattle.oa_journal.specs.Append.{group_of, sealed};
 ghost use Rattle.oa_journal.specs.Bank.{Apart};
@@ -11,7 +12,8 @@ ghost use Rattle.oa_journal.specs.BankCalls.{LaysOut, PartsWithin};
 use crate::layout::BodyBytes;
 use oa_disk::{DeviceFault, Disk, write_then_flip};
 
-/// Fills the free bytes of a batch: the four before the group with its length, the one after it with a closed gate.
+/// Fills the free bytes of a batch: the four before the group with its length, the one after it
+/// with a closed gate.
 fn seal(batch: &mut [u8])
     requires some { 5 < length batch.old }
     requires few { length batch.old < 2 ^ 32 }
@@ -23,7 +25,8 @@ fn seal(batch: &mut [u8])
     batch[count + 4] = 0;
 }
 
-/// Writes the group of a batch after the closed gate at that place of a disk, and then opens the gate.
+/// Writes the group of a batch after the closed gate at place `gate` of a disk, and then opens the
+/// gate. Err: a call of the device failed; after a crash the group is there whole or not at all.
 pub(crate) fn append_group<D: Disk>(
     disk: &mut D,
     gate: u64,
@@ -47,8 +50,9 @@ pub(crate) fn append_group<D: Disk>(
     write_then_flip(disk, gate + 1, batch, gate, 1)
 }
 
-/// Writes a head in one write, and the bytes of a body in writes as long as the buffer. Returns the number of the
-/// body's bytes.
+/// Writes a head in one write, and the bytes of a body of at most `size` bytes in writes as long as
+/// the buffer; `head` and `body` are places of the disk. Returns the number of the body's bytes.
+/// Err: a write failed.
 pub(crate) fn lay_out<D: Disk>(
     disk: &mut D,
     head: u64,

@@ -8,7 +8,7 @@ use oa_image::{ImageFault, read_events};
 use oa_table::{Event, Table, TableFault};
 use std::alloc::Global;
 
-/// Applies the events in order. It ends at the first that does not apply or for which an allocation fails; those
+/// Applies the events in order. Err: an event does not apply, or an allocation for it fails; those
 /// before it have been applied.
 fn apply_all(table: &mut Table, events: Vec<Event>) -> Result<(), TableFault>
     requires { AllByRecursion BringsNoLocks events.items }
@@ -22,7 +22,7 @@ fn apply_all(table: &mut Table, events: Vec<Event>) -> Result<(), TableFault>
     Ok(())
 }
 
-/// Converts the refusal of an event into damage of its group.
+/// Converts the refusal of an event into damage of its group at byte `place`.
 fn of_change(fault: TableFault, place: usize) -> ImageFault
     ensures { result ≡ of_change fault place }
 {
@@ -32,9 +32,9 @@ fn of_change(fault: TableFault, place: usize) -> ImageFault
     }
 }
 
-/// Applies a group, the encodings of events one after the other. Errors: `Damaged` with a place among the bytes if
-/// they are no such encodings or an event does not apply; `Memory` if an allocation fails. After an Err some of the
-/// events may have been applied.
+/// Applies a group, the encodings of events one after the other. Errors: `Damaged` with a place
+/// among the bytes if they are no such encodings or an event does not apply; `Memory` if an
+/// allocation fails. After an error some of the events may have been applied.
 pub(crate) fn replay(alloc: Global, table: &mut Table, group: &[u8]) -> Result<(), ImageFault>
     ensures { IsReplay group.now table.old table.new result }
 {

@@ -3,49 +3,51 @@ ghost use Rattle.std.specs.Prelude.{◌≡◌, ◌↔◌, ◌+◌, ◌<◌, ◌�
 ghost use Rattle.oa_disk.specs.After.{AfterCalls};
 ghost use Rattle.oa_journal.specs.BankCalls.{FindsHead, RefusesHead};
 ghost use Rattle.oa_journal.specs.declared.bank.BankFault.{BankFault};
-ghost use Rattle.oa_journal.specs.declared.shape.Shape.{Shape as AShape};
-ghost use Rattle.oa_journal.specs.Bank.{from_place, HasHeader};
+ghost use Rattle.oa_journal.specs.declared.shape.BankFormat.{BankFormat as AShape};
+ghost use Rattle.oa_journal.specs.promise.Bank.{from_place, HasHeader, body_bytes, format_of, told_size, IsShape};
 ghost use Rattle.oa_journal.specs.Damages.{HasNoHeader};
 ghost use Rattle.oa_journal.specs.Reads.{AfterReads, OnlyReads};
-ghost use Rattle.oa_journal.specs.Shapes.{body_bytes, format_of, told_size, IsShape};
 
 use crate::layout::head_bytes;
-use crate::{BankFault, LEAST_BANK_BYTES, MOST_BANK_BYTES, Shape};
+use crate::{BankFault, BankFormat, LEAST_BANK_BYTES, MOST_BANK_BYTES};
 use oa_disk::Disk;
 
-/// The contents of a bank's head: the format with the body's size, and the lengths of library and snapshot.
+/// The contents of a bank's head: the format with the body's size, and the lengths of library and
+/// snapshot.
 #[derive(Clone, Copy, Debug, PartialEq, Eq)]
-pub struct Head {
+pub struct BankHead {
     /// The format, with the body's size in bytes.
-    pub shape: Shape,
+    pub shape: BankFormat,
     /// The length of the library in bytes.
     pub library: u32,
     /// The length of the snapshot in bytes.
     pub snapshot: u32,
 }
 
+/// Returns whether two slices have the same bytes.
 fn same(one: &[u8], other: &[u8]) -> bool
     ensures { IsTrue result ↔ (one.now ≡ other.now) }
 {
     one == other
 }
 
-/// Returns the format with this number and this size in its head, if there is one.
-fn told_shape(format: u8, size: u32) -> Option<Shape>
+/// Returns the format with this number and this size of a body in its head; None if there is none.
+fn told_shape(format: u8, size: u32) -> Option<BankFormat>
     ensures found { IfSome result (λ shape. IsShape shape × (format_of shape ≡ format) × (told_size shape ≡ size)) }
     ensures none { result ≡ None → (shape : AShape) → IsShape shape → format_of shape ≡ format → told_size shape ≡ size → ⊥ }
 {
     if format == 1 && size == 0 {
-        return Some(Shape::One);
+        return Some(BankFormat::One);
     }
     if format == 2 && size >= LEAST_BANK_BYTES && size <= MOST_BANK_BYTES {
-        return Some(Shape::Two(size));
+        return Some(BankFormat::Two(size));
     }
     None
 }
 
-/// Decodes a head; None if the bytes are not one.
-pub(crate) fn head_in(bytes: &[u8; 32]) -> Option<Head>
+/// Decodes a head. None if the bytes are not one: its number of a format, its size, a fixed byte,
+/// or a length that the body does not have.
+pub(crate) fn head_in(bytes: &[u8; 32]) -> Option<BankHead>
     ensures found { IfSome result (λ h. HasHeader h.shape (slice_index bytes.now) h.library h.snapshot) }
     ensures none { result ≡ None → (shape : AShape) → HasNoHeader shape (slice_index bytes.now) }
 {
@@ -63,15 +65,16 @@ pub(crate) fn head_in(bytes: &[u8; 32]) -> Option<Head>
     if u64::from(library) + u64::from(snapshot) >= u64::from(shape.body_bytes()) {
         return None;
     }
-    Some(Head {
+    Some(BankHead {
         shape,
         library,
         snapshot,
     })
 }
 
-/// Reads the head at that place of a disk.
-pub(crate) fn head_at<D: Disk>(disk: &mut D, place: u64) -> Result<Head, BankFault>
+/// Reads the head at `place`, in bytes from the start of a disk. Errors: `Damaged(place)` if there
+/// is none; `Device`.
+pub(crate) fn head_at<D: Disk>(disk: &mut D, place: u64) -> Result<BankHead, BankFault>
     requires { place + 32 ≤ D.size_of disk.old }
 
     ensures found { IfOk result (λ h. IsTrue (D.is_honest disk.new)
@@ -91,9 +94,10 @@ pub(crate) fn head_at<D: Disk>(disk: &mut D, place: u64) -> Result<Head, BankFau
     Ok(head)
 }
 
-/// Reads the head of a bank of either format at `place`. `Damaged` exactly if there is no head, or the disk is too
-/// small for two banks of its format. Allocates nothing.
-pub fn read_head<D: Disk>(disk: &mut D, place: u64) -> Result<Head, BankFault>
+/// Reads the head of a bank of either format at `place`, in bytes from the start of the disk.
+/// Allocates nothing. Errors: `Damaged(place)` exactly if there is no head, or the disk is too
+/// small for two banks of its format; `Device`.
+pub fn read_head<D: Disk>(disk: &mut D, place: u64) -> Result<BankHead, BankFault>
     requires { place + 32 ≤ D.size_of disk.old }
 
     ensures found { IfOk result (λ h. FindsHead D.Disk place disk.old disk.new h) }

@@ -1,34 +1,35 @@
-//! Reading a bank from a disk: its head, and the parts of its body that are needed, each when it is needed.
+//! Reading a bank from a disk: its head, and the parts of its body that are needed, each when it is
+//! needed.
 ghost use Rattle.std.specs.Prelude.{◌≡◌, ◌↔◌, ◌+◌, ◌-◌, ◌<◌, ◌≤◌, ℕ, List, IsTrue, length, slice_index, OnOk, IfOk, IsErrOf};
 ghost use Rattle.std.specs.Int.{to_le_bytes, w32};
 ghost use Rattle.oa_disk.specs.Disk.{HasBytesAt};
 ghost use Rattle.oa_journal.specs.declared.bank.BankFault.{BankFault};
-ghost use Rattle.oa_journal.specs.Bank.{from_place, IsGroupAt, HasHeader, HasLibrary};
-ghost use Rattle.oa_journal.specs.Damages.{HasNoHeader, HasSnapshot, IsDamagedBank, IsNoGroup, StopsAt};
+ghost use Rattle.oa_journal.specs.promise.Bank.{from_place, IsGroupAt, HasHeader, HasLibrary, body_bytes, IsShape};
+ghost use Rattle.oa_journal.specs.Damages.{HasNoHeader, IsDamagedBank};
+ghost use Rattle.oa_journal.specs.promise.Damages.{HasSnapshot, IsNoGroup, StopsAt};
 ghost use Rattle.oa_journal.specs.BankCalls.{BodyWithin, PartsWithin};
 ghost use Rattle.oa_journal.specs.ReadCalls.{FindsGroup, FindsGroups, FindsTable, IsAhead, IsStored};
 ghost use Rattle.oa_journal.specs.ReadCalls.{PassesGroup, StaysAhead, StaysStored};
 ghost use Rattle.oa_journal.specs.Reads.{AfterReads};
-ghost use Rattle.oa_journal.specs.Shapes.{body_bytes, IsShape};
 
 use crate::ahead::DiskAhead;
 use crate::groups::replay;
-use crate::head::{Head, head_at};
+use crate::head::{BankHead, head_at};
 use crate::snapshot::read_snapshot;
-use crate::{BankFault, Shape};
+use crate::{BankFault, BankFormat};
 use oa_disk::Disk;
 use oa_image::ImageFault;
 use oa_table::Table;
 use std::alloc::{AllocError, Global};
 
-/// Returns this many zeros.
+/// Returns `count` bytes of 0. Err: the allocation failed.
 fn zeros(alloc: Global, count: usize) -> Result<Vec<u8>, AllocError>
     ensures { IfOk result (λ bytes. length bytes.items ≡ count) }
 {
     vec![in alloc; 0; count]
 }
 
-/// Reads `count` bytes of a disk from a place on.
+/// Reads `count` bytes of a disk from place `at` on. Errors: `Memory`, `Device`.
 pub(crate) fn read_part<D: Disk>(
     alloc: Global,
     disk: &mut D,
@@ -49,7 +50,7 @@ pub(crate) fn read_part<D: Disk>(
     Ok(bytes)
 }
 
-/// Copies the bytes into a vector.
+/// Returns a copy of the bytes. Err: the allocation failed.
 fn copied(alloc: Global, bytes: &[u8]) -> Result<Vec<u8>, AllocError>
     ensures { IfOk result (λ copy. copy.items ≡ bytes.now) }
 {
@@ -58,14 +59,15 @@ fn copied(alloc: Global, bytes: &[u8]) -> Result<Vec<u8>, AllocError>
     Ok(copy)
 }
 
-/// Returns whether a gate with this byte is open.
+/// Returns whether a gate with this byte is open. Any byte but 1 is a closed gate.
 fn opens(gate: u8) -> bool
     ensures { IsTrue result ↔ (gate ≡ 1) }
 {
     gate == 1
 }
 
-/// Reads whether the gate at that place of a disk is open.
+/// Reads whether the gate at place `at` of a disk is open; the body ends at place `end`. Err: the
+/// read failed.
 fn is_open<D: Disk>(
     disk: &mut D,
     ahead: &mut DiskAhead,
@@ -86,7 +88,8 @@ fn is_open<D: Disk>(
     Ok(opens(ahead.seen(at, 1)[0]))
 }
 
-/// Reads `count` bytes of a disk from a place on, through the read-ahead buffer if they fit into it.
+/// Reads `count` bytes of a disk from place `at` on, through the read-ahead buffer if they fit into
+/// it. The body ends at place `end`. Errors: `Memory`, `Device`.
 fn group_bytes<D: Disk>(
     alloc: Global,
     disk: &mut D,
@@ -113,13 +116,14 @@ fn group_bytes<D: Disk>(
     Ok(copied(alloc, ahead.seen(at, count))?)
 }
 
-fn is_same(one: Shape, other: Shape) -> bool
+/// Returns whether two formats are the same, with the same size of a body.
+fn is_same(one: BankFormat, other: BankFormat) -> bool
     ensures { IsTrue result ↔ (one ≡ other) }
 {
     one == other
 }
 
-/// Returns the number that four bytes encode.
+/// Returns the number that the first four bytes encode, little-endian.
 fn number(bytes: &[u8]) -> u32
     requires { length bytes.now ≡ 4 }
     ensures { to_le_bytes w32 result ≡ bytes.now }
@@ -127,8 +131,9 @@ fn number(bytes: &[u8]) -> u32
     u32::from_le_bytes([bytes[0], bytes[1], bytes[2], bytes[3]])
 }
 
-/// Reads the head at that place, which must be one of that format.
-fn head_of<D: Disk>(disk: &mut D, shape: Shape, place: u64) -> Result<Head, BankFault>
+/// Reads the head at `place`, which must be one of that format. Errors: `Damaged(place)` if it is
+/// not; `Device`.
+fn head_of<D: Disk>(disk: &mut D, shape: BankFormat, place: u64) -> Result<BankHead, BankFault>
     requires { place + 32 ≤ D.size_of disk.old }
 
     ensures found { IfOk result (λ h. IsTrue (D.is_honest disk.new)
@@ -146,11 +151,12 @@ fn head_of<D: Disk>(disk: &mut D, shape: Shape, place: u64) -> Result<Head, Bank
     Ok(head)
 }
 
-/// Reads the library of the bank with its head and body at these places of a disk, and nothing else.
+/// Reads the library of the bank with its head and body at these places of a disk, and nothing
+/// else. Errors: `Damaged(head)` if the head is not one of that format; `Memory`; `Device`.
 pub(crate) fn library_at<D: Disk>(
     alloc: Global,
     disk: &mut D,
-    shape: Shape,
+    shape: BankFormat,
     head: u64,
     body: u64,
 ) -> Result<Vec<u8>, BankFault>
@@ -167,14 +173,15 @@ pub(crate) fn library_at<D: Disk>(
     read_part(alloc, disk, body, told.library as usize)
 }
 
-/// Reads the head of a bank, and the table of its snapshot.
+/// Reads the head of the bank at these places of a disk, and the table of its snapshot. Errors:
+/// `Damaged` with the place of the first invalid part; `Memory`; `Device`.
 fn first_at<D: Disk>(
     alloc: Global,
     disk: &mut D,
-    shape: Shape,
+    shape: BankFormat,
     head: u64,
     body: u64,
-) -> Result<(Head, Table), BankFault>
+) -> Result<(BankHead, Table), BankFault>
     requires lies { PartsWithin (D.size_of disk.old) head body (body_bytes shape) }
 
     ensures found { IfOk result (λ r. IsTrue (D.is_honest disk.new)
@@ -193,8 +200,9 @@ fn first_at<D: Disk>(
     Ok((told, first))
 }
 
-/// Reads the group after the open gate at that place of a body. The next gate is 5 bytes and the group's length
-/// further on.
+/// Returns the bytes of the group after the open gate at byte `at` of a body of `size` bytes. The
+/// next gate is 5 bytes and the group's length further on. Errors: `Damaged` with the gate's place
+/// on the disk if the length is 0 or leaves no gate after the group; `Memory`; `Device`.
 fn group_at<D: Disk>(
     alloc: Global,
     disk: &mut D,
@@ -233,7 +241,9 @@ fn group_at<D: Disk>(
     group_bytes(alloc, disk, ahead, end, gate + 5, count as usize)
 }
 
-/// Applies the group after the open gate at that place, and returns the place of the next gate.
+/// Applies the group after the open gate at byte `at` of a body of `size` bytes. Returns the place
+/// of the next gate in the body. Errors: `Damaged` with the gate's place on the disk; `Memory`;
+/// `Device`.
 fn read_group<D: Disk>(
     alloc: Global,
     disk: &mut D,
@@ -264,7 +274,9 @@ fn read_group<D: Disk>(
     }
 }
 
-/// Applies the groups of a body from a place on. Returns the table, and the place of the closed gate after them.
+/// Applies the groups of a body of `size` bytes from byte `from` on. Returns the table, the place
+/// in the body of the closed gate after them, and the buffer. Errors: `Damaged` with the place on
+/// the disk of the first invalid group's gate; `Memory`; `Device`.
 fn read_groups<D: Disk>(
     alloc: Global,
     disk: &mut D,
@@ -298,12 +310,13 @@ fn read_groups<D: Disk>(
     Ok((table, at, ahead.into_buffer()))
 }
 
-/// Reads the table of the bank with its head and body at these places of a disk, and the place of the closed gate in
-/// its body. The library is skipped.
+/// Reads the table of the bank with its head and body at these places of a disk; the library is
+/// skipped. Returns the table, the place of the closed gate in the body, and the buffer. Errors:
+/// `Damaged` with the place of the first invalid part; `Memory`; `Device`.
 pub(crate) fn table_at<D: Disk>(
     alloc: Global,
     disk: &mut D,
-    shape: Shape,
+    shape: BankFormat,
     head: u64,
     body: u64,
     buffer: Vec<u8>,

@@ -1,12 +1,13 @@
-//! Reading the snapshot of a bank in stretches. Memory besides the table is one stretch, or twice the largest cell.
+//! Reading the snapshot of a bank in stretches. Memory besides the table is one stretch, or twice
+//! the largest cell.
 ghost use Rattle.std.specs.Prelude.{◌≡◌, ◌+◌, ◌*◌, ◌^◌, ◌<◌, ◌≤◌, ◌++◌, ℕ, IsTrue, [], length, OnOk, IfOk, IsErrOf};
 ghost use Rattle.std.specs.Int.{div_ceil};
 ghost use Rattle.oa_journal.specs.declared.bank.BankFault.{BankFault};
-ghost use Rattle.oa_image.specs.Tables.{table, table_image};
+ghost use Rattle.oa_image.specs.promise.Tables.{table, table_image};
 ghost use Rattle.oa_journal.specs.BankCalls.{BodyWithin};
 ghost use Rattle.oa_journal.specs.Reads.{AfterReads};
 ghost use Rattle.oa_journal.specs.Snapshots.{stretch_bytes, FindsSnapshot, HasNoImage, PassesStretch, ReadsBehind};
-ghost use Rattle.oa_table.specs.Tables.{TableValue};
+ghost use Rattle.oa_table.specs.promise.Tables.{TableValue};
 
 use crate::BankFault;
 use oa_disk::Disk;
@@ -14,11 +15,12 @@ use oa_image::TableReader;
 use oa_table::Table;
 use std::alloc::Global;
 
-/// How many bytes are read at once, unless a part of the encoding is longer. A block of this size goes back to the
-/// system when it is freed.
+/// The number of bytes that are read at once, unless a part of the encoding is longer. A block of
+/// this size goes back to the system when it is freed.
 const STRETCH: usize = 131_072;
 
-/// Returns how many of the `left` bytes to read next: as many as the window has, and at least a stretch.
+/// Returns how many of the `left` bytes to read next: at least `STRETCH`, and at least the `held`
+/// bytes of the window, but no more than `left`.
 fn stretch(held: usize, left: usize) -> usize
     ensures most { result ≤ left }
     ensures least { result < left → stretch_bytes ≤ result }
@@ -27,7 +29,8 @@ fn stretch(held: usize, left: usize) -> usize
     held.max(STRETCH).min(left)
 }
 
-/// Reads `count` bytes of a disk from a place on, and appends them to a window.
+/// Reads `count` bytes of a disk from place `at` on, and appends them to a window. Errors:
+/// `Memory`, `Device`.
 fn read_behind<D: Disk>(
     disk: &mut D,
     at: u64,
@@ -48,7 +51,8 @@ fn read_behind<D: Disk>(
     Ok(())
 }
 
-/// Passes the window to a reader, and keeps the bytes that the reader does not consume.
+/// Passes the window to a reader, and keeps the bytes that the reader does not consume. Err:
+/// `Memory`.
 fn hand_over(reader: &mut TableReader, window: &mut Vec<u8>) -> Result<(), BankFault>
     ensures all { OnOk result (reader.new ++ window.new.items ≡ reader.old ++ window.old.items) }
     ensures whole { OnOk result ((first : TableValue) → table.Is first → reader.old ++ window.old.items ≡ table_image first
@@ -60,7 +64,8 @@ fn hand_over(reader: &mut TableReader, window: &mut Vec<u8>) -> Result<(), BankF
     Ok(())
 }
 
-/// Reads the next stretch before `end` and passes it to a reader. Returns how many bytes are left.
+/// Reads the next stretch of the `left` bytes before place `end`, and passes it to a reader.
+/// Returns how many bytes are left. Errors: `Memory`, `Device`.
 fn read_stretch<D: Disk>(
     disk: &mut D,
     end: u64,
@@ -85,7 +90,8 @@ fn read_stretch<D: Disk>(
     Ok(left - count)
 }
 
-/// Reads the table with its encoding of `count` bytes at that place of a disk.
+/// Reads the table whose encoding is the `count` bytes of a disk from place `at` on. Errors:
+/// `Damaged(at)` if they encode no table; `Memory`; `Device`.
 pub(crate) fn read_snapshot<D: Disk>(
     alloc: Global,
     disk: &mut D,

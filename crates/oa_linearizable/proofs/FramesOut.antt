@@ -3,8 +3,8 @@ use Rattle.std.proofs.Common.{◌≡◌, ◌<◌, ◌^◌, ℕ, List, [], ◌∷
 use Rattle.std.specs.Int.{w32, from_le_bytes, to_le_bytes}
 use Rattle.std.proofs.lemmas.List.{take_at, drop_at}
 use Rattle.std.proofs.lemmas.Nat.{from_le_bytes-to_le_bytes_4}
-use Rattle.oa_share.specs.Frames.{frame_head, frame_of}
-use Rattle.oa_share.specs.Outgoing.{framed_reply, spelled_frame, spelled_frames}
+use Rattle.oa_mux.specs.promise.Frames.{frame_head, frame_of}
+use Rattle.oa_mux.specs.promise.Outgoing.{framed_reply, spelled_frame, spelled_frames}
 use Rattle.oa_linearizable.specs.Clients.{FramesOutAreFrames}
 
 four_bytes : (n : ℕ) → length (to_le_bytes w32 n) ≡ 4
@@ -15,7 +15,8 @@ number_at : List ℕ → ℕ
 number_at bytes = from_le_bytes w32 (take 4 bytes)
 
 -- ---- what stands behind a frame
-behind_number : (client : ℕ) (bytes rest : List ℕ) → frame_of client bytes ++ rest ≡ to_le_bytes w32 client ++ (to_le_bytes w32 (length bytes) ++ (bytes ++ rest))
+behind_number : (client : ℕ) (bytes rest : List ℕ)
+    → frame_of client bytes ++ rest ≡ to_le_bytes w32 client ++ (to_le_bytes w32 (length bytes) ++ (bytes ++ rest))
 behind_number client bytes rest =
     append_assoc (to_le_bytes w32 client ++ to_le_bytes w32 (length bytes)) bytes rest
     ∙ append_assoc (to_le_bytes w32 client) (to_le_bytes w32 (length bytes)) (bytes ++ rest)
@@ -64,7 +65,16 @@ reply_in (x ∷ reply) = drop_at (to_le_bytes w32 (length (x ∷ reply))) (x ∷
 
 no_frame : (frame : ℕ × List ℕ) (frames : List (ℕ × List ℕ)) → [] ≡ spelled_frames (frame ∷ frames) → ⊥
 unfolding spelled_frames
-no_frame frame frames is = absurd (omega (arith, ap length is, length-append (spelled_frame frame) (spelled_frames frames), length-append (frame_head frame.0 (length (framed_reply frame.1))) (framed_reply frame.1), length-append (to_le_bytes w32 frame.0) (to_le_bytes w32 (length (framed_reply frame.1))), four_bytes frame.0))
+no_frame frame frames is =
+    absurd (omega (
+      arith,
+      ap length is,
+      length-append (spelled_frame frame) (spelled_frames frames),
+      length-append
+          (frame_head frame.0 (length (framed_reply frame.1))) (framed_reply frame.1),
+      length-append (to_le_bytes w32 frame.0) (to_le_bytes w32 (length (framed_reply frame.1))),
+      four_bytes frame.0,
+    ))
 
 pub one_list : FramesOutAreFrames
 unfolding spelled_frames
@@ -79,4 +89,5 @@ one_list (x ∷ xs) (y ∷ ys) one two same =
     let len = same_length x.0 y.0 a b rest others same one.0.length_fits two.0.length_fits in
     let client = same_client x.0 y.0 a b rest others same one.0.client two.0.client in
     let bytes : x.1 ≡ y.1 = sym (reply_in x.1) ∙ ap (drop 4) (same_bytes x.0 y.0 a b rest others same len) ∙ reply_in y.1 in
-    ap (λ (n : ℕ). (n, x.1) ∷ xs) client ∙ ap (λ (l : List ℕ). (y.0, l) ∷ xs) bytes ∙ ap (λ (l : List (ℕ × List ℕ)). y ∷ l) (one_list xs ys one.1 two.1 (same_behind x.0 y.0 a b rest others same len))
+    ap (λ (n : ℕ). (n, x.1) ∷ xs) client ∙ ap (λ (l : List ℕ). (y.0, l) ∷ xs) bytes
+    ∙ ap (λ (l : List (ℕ × List ℕ)). y ∷ l) (one_list xs ys one.1 two.1 (same_behind x.0 y.0 a b rest others same len))

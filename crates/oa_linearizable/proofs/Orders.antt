@@ -1,7 +1,10 @@
 -- An order linearizes a history.
-use Rattle.std.proofs.Common.{◌≡◌, ◌==◌, ℕ, ◌<◌, ◌≤◌, Bool, true, false, if◌then◌else◌, List, [], ◌∷◌, ◌++◌, length, map, suc, refl, sym, ◌∙◌, ap, subst, arith, append_assoc, length-append}
+use Rattle.std.proofs.Common.{◌≡◌, ◌==◌, ℕ, ◌<◌, ◌≤◌, Bool, true, false, if◌then◌else◌, List, [], ◌∷◌, ◌++◌, length, map, suc, refl, sym, ◌∙◌, ap, subst}
+use Rattle.std.proofs.Common.{arith, append_assoc, length-append}
 use Rattle.oa_linearizable.specs.Clients.{input_of, result_of}
-use Rattle.oa_linearizable.specs.Histories.{ComesInOrder, Invocation, Response, History, IsFirstPart, IsLinearizedBy, Operation, Precedes, invoked, of_client, responded, sequential}
+use Rattle.oa_linearizable.specs.promise.Histories.{ComesInOrder, Invocation, Response, History, IsFirstPart}
+use Rattle.oa_linearizable.specs.promise.Histories.{IsLinearizedBy, Operation, Precedes, invoked, of_client, responded}
+use Rattle.oa_linearizable.specs.promise.Histories.{sequential}
 
 -- ---- lists
 
@@ -54,7 +57,9 @@ unfolding of_client
 of_both client [] ys = refl
 of_both client (x ∷ xs) ys = by (x.0 == client) (of_both client xs ys)
   where
-    by : (b : Bool) → of_client client (xs ++ ys) ≡ of_client client xs ++ of_client client ys → (if b then x.1 ∷ of_client client (xs ++ ys) else of_client client (xs ++ ys)) ≡ (if b then x.1 ∷ of_client client xs else of_client client xs) ++ of_client client ys
+    by : (b : Bool) → of_client client (xs ++ ys) ≡ of_client client xs ++ of_client client ys
+        → (if b then x.1 ∷ of_client client (xs ++ ys) else of_client client (xs ++ ys)) ≡ (if b then x.1 ∷ of_client client xs else of_client client xs)
+        ++ of_client client ys
     by true rest = ap (λ l. x.1 ∷ l) rest
     by false rest = rest
 
@@ -90,26 +95,39 @@ unfolding sequential
 in_parts [] ys = refl
 in_parts (one ∷ xs) ys = ap (λ l. Invocation one.client one.input ∷ (Response one.client one.result ∷ l)) (in_parts xs ys)
 
-module _ {I R : Type 0} (history : History I R) (inputs : List (ℕ × I)) (results : List (ℕ × R)) (order : List (Operation I R)) (open_calls : List (ℕ × I)) (unheard : List (ℕ × R)) (comes : ComesInOrder history inputs results) (first : inputs ≡ map input_of order ++ open_calls) (all : map result_of order ≡ results ++ unheard) where
+module _ {I R : Type 0} (history : History I R) (inputs : List (ℕ × I)) (results : List (ℕ × R)) (order : List (Operation I R)) (open_calls : List (ℕ × I))
+    (unheard : List (ℕ × R)) (comes : ComesInOrder history inputs results) (first : inputs ≡ map input_of order ++ open_calls)
+    (all : map result_of order ≡ results ++ unheard) where
   received : map result_of order ≡ responded history ++ (comes.results_are.0 ++ unheard)
   received = all ∙ ap (λ l. l ++ unheard) comes.results_are.1 ∙ append_assoc (responded history) comes.results_are.0 unheard
 
   in_time : (a i b j : ℕ) → Precedes history a i b j → Precedes (sequential order) a i b j
   in_time a i b j before =
       let heard : map result_of order ≡ responded before.past ++ (responded before.future ++ (comes.results_are.0 ++ unheard)) =
-      received ∙ ap (λ l. l ++ (comes.results_are.0 ++ unheard)) (ap responded before.point ∙ responded_both before.past before.future) ∙ append_assoc (responded before.past) (responded before.future) (comes.results_are.0 ++ unheard) in
+      received ∙ ap (λ l. l ++ (comes.results_are.0 ++ unheard)) (ap responded before.point ∙ responded_both before.past before.future)
+      ∙ append_assoc (responded before.past) (responded before.future) (comes.results_are.0 ++ unheard) in
       let parts = halves result_of order (responded before.past) (responded before.future ++ (comes.results_are.0 ++ unheard)) heard in
       let asked : map input_of parts.first ++ (map input_of parts.second ++ open_calls) ≡ invoked before.past ++ invoked before.future =
-      sym (append_assoc (map input_of parts.first) (map input_of parts.second) open_calls) ∙ ap (λ l. l ++ open_calls) (sym (map_both parts.first parts.second) ∙ ap (map input_of) (sym parts.are)) ∙ sym first ∙ sym comes.inputs_are ∙ ap invoked before.point ∙ invoked_both before.past before.future in
+      sym (append_assoc (map input_of parts.first) (map input_of parts.second) open_calls)
+      ∙ ap (λ l. l ++ open_calls) (sym (map_both parts.first parts.second) ∙ ap (map input_of) (sym parts.are)) ∙ sym first ∙ sym comes.inputs_are
+      ∙ ap invoked before.point ∙ invoked_both before.past before.future in
       let few : length (map input_of parts.first) ≤ length (invoked before.past) =
-      omega (arith, map_length input_of parts.first, map_length result_of parts.first, ap length parts.front_is, comes.caused before.past before.future before.point) in
-      let begun = of_first b (map input_of parts.first) (invoked before.past) (shorter (map input_of parts.first) (map input_of parts.second ++ open_calls) (invoked before.past) (invoked before.future) asked few) in
+      omega (
+        arith,
+        map_length input_of parts.first,
+        map_length result_of parts.first,
+        ap length parts.front_is,
+        comes.caused before.past before.future before.point,
+      ) in
+      let begun = of_first b (map input_of parts.first) (invoked before.past)
+      (shorter (map input_of parts.first) (map input_of parts.second ++ open_calls) (invoked before.past) (invoked before.future) asked few) in
       record {
         past = sequential parts.first;
         future = sequential parts.second;
         point = ap sequential parts.are ∙ in_parts parts.first parts.second;
         ended = subst (λ l. i < length (of_client a l)) (sym (results_are parts.first ∙ parts.front_is)) before.ended;
-        later = subst (λ l. length (of_client b l) ≤ j) (sym (inputs_are parts.first)) (omega (arith, before.later, ap length begun.1, length-append (of_client b (map input_of parts.first)) begun.0));
+        later = subst (λ l. length (of_client b l) ≤ j) (sym (inputs_are parts.first))
+            (omega (arith, before.later, ap length begun.1, length-append (of_client b (map input_of parts.first)) begun.0));
       }
     where
       map_both : (xs ys : List (Operation I R)) → map input_of (xs ++ ys) ≡ map input_of xs ++ map input_of ys
@@ -119,7 +137,8 @@ module _ {I R : Type 0} (history : History I R) (inputs : List (ℕ × I)) (resu
   -- an order linearizes such a history, if it has its first operations, and all results that have come
   pub linearized : IsLinearizedBy history order
   linearized = record {
-    calls = λ client. of_first client (invoked (sequential order)) (invoked history) (open_calls, comes.inputs_are ∙ first ∙ ap (λ l. l ++ open_calls) (sym (inputs_are order)));
+    calls = λ client. of_first client (invoked (sequential order)) (invoked history)
+        (open_calls, comes.inputs_are ∙ first ∙ ap (λ l. l ++ open_calls) (sym (inputs_are order)));
     results = λ client. of_first client (responded history) (responded (sequential order)) (comes.results_are.0 ++ unheard, results_are order ∙ received);
     real_time = in_time;
   }

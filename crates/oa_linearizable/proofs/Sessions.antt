@@ -1,20 +1,20 @@
 -- Sessions over a store, cut behind any of their turns.
 use Rattle.std.proofs.Common.{◌≡◌, ℕ, List, [], ◌∷◌, ◌++◌, refl, ap, ◌∙◌, subst}
 use Rattle.oa_disk.specs.declared.disk.Disk.{Ghosts}
-use Rattle.oa_owners.specs.ClientLocks.{ClientLock}
-use Rattle.oa_server.specs.SharedTalks.{asked_written}
-use Rattle.oa_server.specs.Sharing.{shared}
-use Rattle.oa_share.specs.Answering.{SharedTurn}
-use Rattle.oa_share.specs.Marks.{Owned}
-use Rattle.oa_share.specs.Readers.{Brought}
-use Rattle.oa_share.specs.Talking.{AllTurned}
-use Rattle.oa_decision.specs.States.{State}
-use Rattle.oa_history.specs.Framed.{turns_told}
+use Rattle.oa_turn.specs.promise.ClientLocks.{ClientLock}
+use Rattle.oa_server.specs.promise.SharedSessions.{asked_written}
+use Rattle.oa_server.specs.promise.SharedMachine.{shared}
+use Rattle.oa_mux.specs.promise.Answering.{SharedTurn}
+use Rattle.oa_mux.specs.promise.Marks.{Tagged}
+use Rattle.oa_mux.specs.promise.Readers.{Brought}
+use Rattle.oa_mux.specs.promise.Talking.{AllTurned}
+use Rattle.oa_decision.specs.promise.States.{State}
+use Rattle.oa_history.specs.promise.Framed.{turns_told}
 use Rattle.oa_history.proofs.Framed.{turns_made}
 use Rattle.oa_linearizable.specs.Sessions.{SessionsRunUntilCrash}
 
 -- some first turns, and those behind them
-record Cut {S : Type 0} (turn : SharedTurn S) (old : S) (front back : List (Owned Brought)) (tolds : List (List (ℕ × List ℕ))) (new : S) : Type 0 where
+record Cut {S : Type 0} (turn : SharedTurn S) (old : S) (front back : List (Tagged Brought)) (tolds : List (List (ℕ × List ℕ))) (new : S) : Type 0 where
   first : List (List (ℕ × List ℕ))
   second : List (List (ℕ × List ℕ))
   are : tolds ≡ first ++ second
@@ -22,7 +22,8 @@ record Cut {S : Type 0} (turn : SharedTurn S) (old : S) (front back : List (Owne
   run : AllTurned turn old front first mid
   rest : AllTurned turn mid back second new
 
-cut_turns : {S : Type 0} (turn : SharedTurn S) (old : S) (front back : List (Owned Brought)) (tolds : List (List (ℕ × List ℕ))) (new : S) → AllTurned turn old (front ++ back) tolds new → Cut turn old front back tolds new
+cut_turns : {S : Type 0} (turn : SharedTurn S) (old : S) (front back : List (Tagged Brought)) (tolds : List (List (ℕ × List ℕ))) (new : S)
+    → AllTurned turn old (front ++ back) tolds new → Cut turn old front back tolds new
 cut_turns turn old [] back tolds new run = record { first = []; second = tolds; are = refl; mid = old; run = refl; rest = run }
 cut_turns turn old (ask ∷ front) back [] new run = absurd run
 cut_turns turn old (ask ∷ front) back (told ∷ tolds) new run =
@@ -39,7 +40,8 @@ cut_turns turn old (ask ∷ front) back (told ∷ tolds) new run =
 pub sessions_run : {D : Type 0} {g : Ghosts D} → SessionsRunUntilCrash g
 sessions_run {D} {g} input input' out out' size old new why session start store served next rest is sits asked one =
     let begun = session.begun in
-    let run = subst (λ (l : List (Owned Brought)). AllTurned asked_written begun l (turns_told session.serves) session.left) asked (turns_made session.serves) in
+    let run = subst (λ (l : List (Tagged Brought)). AllTurned asked_written begun l (turns_told session.serves) session.left) asked
+    (turns_made session.serves) in
     let first = cut_turns asked_written begun served (next ++ rest) (turns_told session.serves) session.left run in
     let second = cut_turns asked_written first.mid next rest first.second session.left first.rest in
     let same : shared begun.host begun.desk.owners ≡ shared old.host [] =

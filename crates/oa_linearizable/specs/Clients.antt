@@ -1,11 +1,12 @@
 -- What one of many clients receives, and which frames it does. (This project's choice.)
 use Rattle.std.specs.Prelude.{◌≡◌, ◌<◌, ◌^◌, ℕ, List, [], ◌∷◌, ◌++◌, length, map}
-use Rattle.oa_server.specs.Desks.{frames_of}
-use Rattle.oa_server.specs.Sharing.{ClientReply}
-use Rattle.oa_share.specs.Marks.{Owned, own}
-use Rattle.oa_share.specs.Outgoing.{framed_reply, spelled_frames}
-use Rattle.oa_share.specs.Readers.{Brought}
-use Rattle.oa_linearizable.specs.Histories.{IsFirstPart, Operation, of_client}
+use Rattle.oa_server.specs.promise.SharedSessions.{frames_of}
+use Rattle.oa_server.specs.promise.SharedMachine.{ClientReply}
+use Rattle.oa_mux.specs.promise.Marks.{Tagged}
+use Rattle.oa_mux.specs.Marks.{own}
+use Rattle.oa_mux.specs.promise.Outgoing.{framed_reply, spelled_frames}
+use Rattle.oa_mux.specs.promise.Readers.{Brought}
+use Rattle.oa_linearizable.specs.promise.Histories.{IsFirstPart, Operation, of_client}
 
 -- the client and the input of an operation, and its client and its result
 abbrev pub input_of : {I R : Type 0} → Operation I R → ℕ × I
@@ -15,17 +16,17 @@ abbrev pub result_of : {I R : Type 0} → Operation I R → ℕ × R
 result_of one = (one.client, one.result)
 
 -- the bytes of the frames of some replies, one after another
-abbrev pub bytes_of : ℕ × List ℕ → List ℕ
-bytes_of frame = frame.1
+abbrev pub frame_bytes : ℕ × List ℕ → List ℕ
+frame_bytes frame = frame.1
 
 unfoldable pub bytes_told : List ClientReply → List (List ℕ)
 bytes_told [] = []
-bytes_told (reply ∷ replies) = map bytes_of (frames_of reply) ++ bytes_told replies
+bytes_told (reply ∷ replies) = map frame_bytes (frames_of reply) ++ bytes_told replies
 
 -- A client was served, by an order of the operations of all clients. This order contains a prefix of the client's own
 -- requests, in their order, and nothing else of this client. The frames with its number are a prefix of the results
 -- of these operations, in order, and nothing else.
-pub record ClientIsServed (client : ℕ) (asks : List (Owned Brought)) (frames : List (ℕ × List ℕ))
+pub record ClientIsServed (client : ℕ) (asks : List (Tagged Brought)) (frames : List (ℕ × List ℕ))
     (order : List (Operation Brought ClientReply)) : Type 0 where
   pub requests : IsFirstPart (of_client client (map input_of order)) (own client asks)
   pub replies : List ClientReply

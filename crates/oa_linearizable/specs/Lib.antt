@@ -1,7 +1,6 @@
-pub mod Histories
 pub mod Clients
-pub mod Tables
 pub mod Crashes
 pub mod Sessions
 pub mod Mutexes
 pub mod Syncs
+pub mod promise

@@ -1,19 +1,19 @@
 -- LOCK as a mutex of many clients. (This project's choice.)
 use Rattle.std.specs.Prelude.{◌≡◌, ◌⊎◌, ◌<◌, ◌^◌, ℕ, ◌+◌, true, false, List, [], ◌∷◌}
 use Rattle.oa_frame.specs.declared.ends.End.{End}
-use Rattle.oa_owners.specs.ClientLocks.{is_cell}
-use Rattle.oa_record.specs.Replies.{ReplyValue, number_field}
+use Rattle.oa_turn.specs.promise.ClientLocks.{is_cell}
+use Rattle.oa_record.specs.promise.Replies.{ReplyValue, number_field}
 use Rattle.oa_server.specs.Ledgers.{HasLedger}
-use Rattle.oa_server.specs.Sharing.{ClientReply, Replies, Shared}
-use Rattle.oa_share.specs.Readers.{Body, Brought, Ends}
+use Rattle.oa_server.specs.promise.SharedMachine.{ClientReply, Replies, Shared}
+use Rattle.oa_mux.specs.promise.Readers.{Body, Brought, Ends}
 use Rattle.oa_table.specs.Locks.{locks_at}
 use Rattle.oa_table.specs.declared.name.CellName.{CellName}
 use Rattle.oa_decision.specs.declared.decision.LockChange.{LockChange}
 use Rattle.oa_decision.specs.declared.decision.LockChange.TheVariants.{Lock, Unlock}
-use Rattle.oa_turn.specs.Events.{is_done}
-use Rattle.oa_turn.specs.Locking.{AsksLock}
-use Rattle.oa_linearizable.specs.Histories.{IsLegal, Operation}
-use Rattle.oa_linearizable.specs.Tables.{the_table}
+use Rattle.oa_turn.specs.promise.Events.{is_done}
+use Rattle.oa_turn.specs.promise.Locking.{AsksLock}
+use Rattle.oa_linearizable.specs.promise.Histories.{IsLegal, Operation}
+use Rattle.oa_linearizable.specs.promise.Tables.{the_table}
 
 -- an operation asked for this change of a lock, from this state on, and was answered S_OK; the fields of the reply
 pub record ChangesLock (change : LockChange) (old : Shared) (one : Operation Brought ClientReply) (fields : List ℕ)

@@ -1,8 +1,9 @@
 -- Why a commit needs two syncs. (This project's choice of a model: `Disk` of oa_disk.)
 use Rattle.std.specs.Prelude.{◌≡◌, ℕ, List}
-use Rattle.oa_disk.specs.Disk.{Reaches, Torn}
+use Rattle.oa_disk.specs.Disk.{Reaches}
+use Rattle.oa_disk.specs.promise.Disk.{Torn}
 use Rattle.oa_disk.specs.declared.disk.Disk.{Ghosts}
-use Rattle.oa_decision.specs.States.{State}
+use Rattle.oa_decision.specs.promise.States.{State}
 
 -- A commit writes some bytes of a disk, and one sync follows. However recovery reads bytes: if some other bytes in
 -- the same range mean a third state, a crash before the sync may leave that state, which is neither the one before

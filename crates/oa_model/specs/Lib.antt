@@ -1,7 +1,2 @@
-pub mod Codes
-pub mod Folding
-pub mod Guids
-pub mod Integers
-pub mod Invoke
 pub mod Limits
-pub mod Types
+pub mod promise

@@ -1,6 +1,6 @@
 //! The codes of replies.
 ghost use Rattle.std.specs.Prelude.{◌≡◌, ◌↔◌, IsTrue};
-ghost use Rattle.oa_model.specs.Codes.{s_ok};
+ghost use Rattle.oa_model.specs.promise.Codes.{s_ok};
 
 /// The code of a reply: the 32 bits of an HRESULT (MS-ERREF section 2.1).
 #[derive(Clone, Copy, Debug, PartialEq, Eq)]

@@ -1,11 +1,12 @@
 //! The integer types.
 ghost use Rattle.std.specs.Prelude.{◌≡◌};
-ghost use Rattle.oa_model.specs.Integers.{is_integer_type, is_signed_integer};
+ghost use Rattle.oa_model.specs.promise.Integers.{is_integer_type, is_signed_integer};
 
 use crate::VarType;
 
 impl VarType {
-    /// Returns whether its values are whole numbers: I1, I2, I4, I8, INT, UI1, UI2, UI4, UI8 or UINT (MS-OAUT section 2.2.7).
+    /// Returns whether its values are whole numbers: I1, I2, I4, I8, INT, UI1, UI2, UI4, UI8 or
+    /// UINT (MS-OAUT section 2.2.7).
     pub const fn is_integer(self) -> bool
         ensures { result ≡ is_integer_type self }
     {

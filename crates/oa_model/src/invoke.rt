@@ -10,7 +10,8 @@ pub const PUT_FLAG: u16 = 4;
 pub const PUT_REF_FLAG: u16 = 8;
 /// DISPID_UNKNOWN: the DISPID of an unknown name (MS-OAUT section 2.2.32.1).
 pub const UNKNOWN_DISPID: i32 = -1;
-/// DISPID_PROPERTYPUT: the DISPID that names the new value of a property among the arguments (MS-OAUT section 2.2.32.1).
+/// DISPID_PROPERTYPUT: the DISPID that names the new value of a property among the arguments
+/// (MS-OAUT section 2.2.32.1).
 pub const PROPERTY_PUT_DISPID: i32 = -3;
 /// INVOKE_FUNC (INVOKEKIND, MS-OAUT section 2.2.14).
 pub const INVOKE_METHOD: u16 = 1;

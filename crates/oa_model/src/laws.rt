@@ -1,8 +1,8 @@
 //! Theorems about the definitions, each the contract of a function with an empty body.
 ghost use Rattle.std.specs.Prelude.{◌≡◌, ℕ, List, length, Some};
 ghost use Rattle.oa_model.specs.declared.var_type.VarType.{VarType};
-ghost use Rattle.oa_model.specs.Guids.{wire_order};
-ghost use Rattle.oa_model.specs.Types.{vt_of, type_at};
+ghost use Rattle.oa_model.specs.promise.Guids.{wire_order};
+ghost use Rattle.oa_model.specs.promise.Types.{vt_of, type_at};
 
 /// Two conversions of a GUID to the order of the wire give the GUID again.
 pub fn guid_back()

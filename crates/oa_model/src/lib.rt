@@ -1,9 +1,10 @@
 //! Codes, limits, types and GUIDs of the automation server: the data that the crates share.
 //!
-//! Contract: each type has its own number and each number at most one type (`VarType::vt`, `from_vt`). The wire bytes of a GUID are those
-//! of its fields in little-endian order (`guid_to_wire`, `guid_from_wire`). `fold` changes only A to Z.
+//! Contract: each type has its own number and each number at most one type (`VarType::vt`,
+//! `from_vt`). The wire bytes of a GUID are those of its fields in little-endian order
+//! (`guid_to_wire`, `guid_from_wire`). `fold` changes only A to Z.
 //!
-//! Used by every crate except oa_cells, oa_ndr, oa_ordered, oa_tokens, oa_stream and oa_disk; oa_keeper uses it only through others.
+//! Used by every crate except oa_cells, oa_ndr, oa_ordered, oa_tokens, oa_stream and oa_disk.
 #![tactic(auto)]
 
 mod bound;

@@ -1,11 +1,12 @@
 //! The types of values.
 ghost use Rattle.std.specs.Prelude.{◌≡◌};
-ghost use Rattle.oa_model.specs.Types.{vt_of, type_at, vt_of_value, sf_type_of, element_size_of, is_signed_type};
+ghost use Rattle.oa_model.specs.promise.Types.{vt_of, type_at, vt_of_value, sf_type_of, element_size_of};
+ghost use Rattle.oa_model.specs.promise.Types.{is_signed_type};
 
 use crate::invoke::VT_ARRAY;
 
-/// The type of a scalar value (VARENUM, MS-OAUT section 2.2.7). VARIANT is the type of no value: as the type of an array's elements or as a
-/// declared type it allows a scalar of any type.
+/// The type of a scalar value (VARENUM, MS-OAUT section 2.2.7). VARIANT is the type of no value: as
+/// the type of an array's elements or as a declared type it allows a scalar of any type.
 #[derive(Clone, Copy, Debug, PartialEq, Eq)]
 pub enum VarType {
     /// 0: no value.
@@ -110,8 +111,9 @@ impl VarType {
         )
     }
 
-    /// Returns the sfType of an array with elements of this type (MS-OAUT section 2.2.8), which depends on their width; BSTR and VARIANT
-    /// have their own. None if this server has no such array: EMPTY, NULL, ERROR and DECIMAL.
+    /// Returns the sfType of an array with elements of this type (MS-OAUT section 2.2.8), which
+    /// depends on their width; BSTR and VARIANT have their own. None if this server has no such
+    /// array: EMPTY, NULL, ERROR and DECIMAL.
     pub const fn sf_type(self) -> Option<u32>
         ensures { result ≡ sf_type_of self }
     {
@@ -126,7 +128,8 @@ impl VarType {
         }
     }
 
-    /// Returns the cbElements of an array with elements of this type, in bytes. None if this server has no such array.
+    /// Returns the cbElements of an array with elements of this type, in bytes. None if this server
+    /// has no such array.
     pub const fn element_size(self) -> Option<u32>
         ensures { result ≡ element_size_of self }
     {
@@ -141,7 +144,8 @@ impl VarType {
     }
 }
 
-/// The type of a value, or the declared type of a property or parameter: a scalar type, or that of an array.
+/// The type of a value, or the declared type of a property or parameter: a scalar type, or that of
+/// an array.
 #[derive(Clone, Copy, Debug, PartialEq, Eq)]
 pub enum ValueType {
     /// A scalar of this type.
@@ -151,7 +155,8 @@ pub enum ValueType {
 }
 
 impl ValueType {
-    /// Returns the number of the type: that of the scalar, or that of the elements with 0x2000 added (VT_ARRAY, MS-OAUT section 2.2.7).
+    /// Returns the number of the type: that of the scalar, or that of the elements with 0x2000
+    /// added (VT_ARRAY, MS-OAUT section 2.2.7).
     pub const fn vt(self) -> u16
         ensures { result ≡ vt_of_value self }
     {

@@ -27,8 +27,10 @@ pub keeps_more : (old new : FieldOutput) (text : List ℕ) → new ≡ in_field 
 keeps_more old new text is was h = rw is (has_more was old text h)
 
 -- of a vector to which a call added something, or nothing
-pub keeps_added : {X E : Type 0} (r : Result X E) (start : ℕ) (old new text : List ℕ) → start ≤ length old → OnOk r (new ≡ old ++ text) → OnErr r (new ≡ old) → TakesNothingBack (from start old) (from start new)
-keeps_added (Ok x) start old new text in_it ok err = keeps_more (from start old) (from start new) text (rw (ok, take-append-le start old text in_it, drop-append-le start old text in_it) refl)
+pub keeps_added : {X E : Type 0} (r : Result X E) (start : ℕ) (old new text : List ℕ) → start ≤ length old → OnOk r (new ≡ old ++ text) → OnErr r (new ≡ old)
+    → TakesNothingBack (from start old) (from start new)
+keeps_added (Ok x) start old new text in_it ok err =
+    keeps_more (from start old) (from start new) text (rw (ok, take-append-le start old text in_it, drop-append-le start old text in_it) refl)
 keeps_added (Err e) start old new text in_it ok err = λ was h. rw err h
 
 -- Truncation to the bytes that were there when the call began.

@@ -6,8 +6,9 @@ use Rattle.std.proofs.lemmas.List.{append-nil, drop_at, length-append}
 use Rattle.std.proofs.lemmas.List.{length-replicate}
 use Rattle.byteorder.specs.Endian.{little_number, little_bytes}
 use Rattle.byteorder.specs.Numbers.{length-bytes_low_first, little_number-reads_back}
-use Rattle.oa_ndr.specs.Forms.{padding, ◌▸◌, nothing, align, ignored, unit, exactly, any, with, given, referent, each}
-use Rattle.oa_ndr.specs.Writing.{put_align, put_unit, put_bytes, put_referent, put_all}
+use Rattle.oa_ndr.specs.promise.Forms.{padding, ◌▸◌, nothing, align, ignored, unit, exactly, any, with, given, referent}
+use Rattle.oa_ndr.specs.promise.Forms.{each}
+use Rattle.oa_ndr.specs.promise.Writing.{put_align, put_unit, put_bytes, put_referent, put_all}
 
 -- The bytes that have been added at the end.
 pub record Adds (F : ℕ → List ℕ → Type 0) (old new : List ℕ) : Type 0 where
@@ -36,12 +37,17 @@ unit_writes n x lt = record {
   adds = λ out.
       let zeros = replicate (padding n (length out)) 0 in
       let zeros_len : length zeros ≡ padding n (length out) = length-replicate (padding n (length out)) 0 in
-      let rest : drop (padding n (length out)) (zeros ++ little_bytes n x) ≡ little_bytes n x = drop_at zeros (little_bytes n x) (padding n (length out)) zeros_len in
+      let rest : drop (padding n (length out)) (zeros ++ little_bytes n x) ≡ little_bytes n x =
+      drop_at zeros (little_bytes n x) (padding n (length out)) zeros_len in
       let back : little_number n (little_bytes n x) ≡ x = ap (little_number n) (sym (append-nil (little_bytes n x))) ∙ little_number-reads_back n x [] lt in
       record {
         text = zeros ++ little_bytes n x;
         parts = refl;
-        form = record { len = omega (arith, zeros_len, length-append zeros (little_bytes n x), length-bytes_low_first 0 n x); value = ap (little_number n) rest ∙ back };
+        form = record {
+          len = omega (arith, zeros_len, length-append zeros (little_bytes n x), length-bytes_low_first 0 n x);
+          value = ap (little_number n) rest
+              ∙ back;
+        };
       };
 }
 
@@ -51,7 +57,12 @@ ignored_writes n x = record {
   adds = λ out.
       let zeros = replicate (padding n (length out)) 0 in
       let zeros_len : length zeros ≡ padding n (length out) = length-replicate (padding n (length out)) 0 in
-      record { text = zeros ++ little_bytes n x; parts = refl; form = omega (arith, zeros_len, length-append zeros (little_bytes n x), length-bytes_low_first 0 n x) };
+      record {
+        text = zeros ++ little_bytes n x;
+        parts = refl;
+        form = omega
+            (arith, zeros_len, length-append zeros (little_bytes n x), length-bytes_low_first 0 n x);
+      };
 }
 
 pub align_writes : (n : ℕ) → Writes (align n) (put_align n)
@@ -78,7 +89,8 @@ pub referent_writes : (is_set : Bool) → Writes (referent is_set) (put_referent
 referent_writes true = with_writes 131072 (then_writes (unit_writes 4 131072 (omega arith)) (given_writes refl))
 referent_writes false = with_writes 0 (then_writes (unit_writes 4 0 (omega arith)) (given_writes refl))
 
-pub each_writes : {A : Type 0} {P : A → Type 0} {F : A → ℕ → List ℕ → Type 0} {put : A → List ℕ → List ℕ} → ((x : A) → P x → Writes (F x) (put x)) → (xs : List A) → AllByRecursion P xs → Writes (each F xs) (put_all put xs)
+pub each_writes : {A : Type 0} {P : A → Type 0} {F : A → ℕ → List ℕ → Type 0} {put : A → List ℕ → List ℕ} → ((x : A) → P x → Writes (F x) (put x))
+    → (xs : List A) → AllByRecursion P xs → Writes (each F xs) (put_all put xs)
 each_writes w [] all = nothing_writes
 each_writes w (x ∷ xs) all = then_writes (w x all.0) (each_writes w xs all.1)
 

@@ -1,16 +1,9 @@
 //! Reads fields.
 
 ghost use Rattle.std.specs.Prelude.{◌≡◌, ◌<◌, ◌≤◌, length, IfOk};
-ghost use Rattle.oa_ndr.specs.Forms.{padding};
-ghost use Rattle.oa_ndr.specs.Reading.{
-  at,
-  Gives,
-  align_at,
-  slot_at,
-  bytes_at,
-  unit_at,
-  referent_at,
-};
+ghost use Rattle.oa_ndr.specs.promise.Forms.{padding};
+ghost use Rattle.oa_ndr.specs.promise.Reading.{at, bytes_at};
+ghost use Rattle.oa_ndr.specs.Reading.{Gives, align_at, slot_at, unit_at, referent_at};
 
 use byteorder::{ByteOrder, LittleEndian};
 use std::marker::Model;
@@ -23,8 +16,9 @@ pub struct Short;
 
 /// A reader of one field, which knows its offset from the first byte of the field.
 ///
-/// Each call reads at the next multiple of its own size and moves past the value. The padding before the value may have any content. If the
-/// bytes end too early, the call returns `Short` and does not move.
+/// Each call reads at the next multiple of its own size and moves past the value. The padding
+/// before the value may have any content. If the bytes end too early, the call returns `Short` and
+/// does not move.
 #[derive(Drop)]
 pub struct Ndr<'a> {
     position: usize,
@@ -33,7 +27,7 @@ pub struct Ndr<'a> {
 
 impl<'a> Model for Ndr<'a> {
     ghost use Rattle.std.specs.Prelude.{◌+◌, ◌<◌, ◌^◌, length};
-    ghost use Rattle.oa_ndr.specs.Reading.{Cursor, at};
+    ghost use Rattle.oa_ndr.specs.promise.Reading.{Cursor, at};
 
     ghost Value = { Cursor };
 
@@ -42,13 +36,14 @@ impl<'a> Model for Ndr<'a> {
     ghost invariant = { λ r. r.position + length r.rest.now < 2 ^ 64 };
 }
 
-/// Returns the number of bytes between an offset and the next multiple of n.
+/// Returns the number of bytes between offset `place` and the next multiple of `n`.
 pub(crate) fn padding(n: usize, place: usize) -> usize
     requires { 0 < n }
     ensures value { result ≡ padding n place }
     ensures small { result < n }
 {
-    // A remainder by a constant is a mask. A division takes longer than the rest of a read or a write.
+    // A remainder by a constant is a mask. A division takes longer than the rest of a read or a
+    // write.
     match n {
         1 => 0,
         2 => (2 - place % 2) % 2,
@@ -96,7 +91,8 @@ impl<'a> Ndr<'a> {
         self.rest
     }
 
-    /// Moves to the next multiple of `n`, which is 1 to 8, past padding of any content (C706 14.2.2).
+    /// Moves to the next multiple of `n`, which is 1 to 8, past padding of any content (C706
+    /// 14.2.2). Err: the bytes end too early, and the reader does not move.
     #[tactic(auto, unfolding(crate::specs::Reading::align_at))]
     pub fn align(&mut self, n: usize) -> Result<(), Short>
         requires above { 0 < n }
@@ -113,8 +109,9 @@ impl<'a> Ndr<'a> {
         Ok(())
     }
 
-    /// Reads the next `n` bytes, without alignment.
-    #[tactic(auto, unfolding(crate::specs::Reading::bytes_at))]
+    /// Reads the next `n` bytes, without alignment. Err: fewer are left, and the reader does not
+    /// move.
+    #[tactic(auto, unfolding(crate::specs::promise::Reading::bytes_at))]
     pub fn bytes(&mut self, n: usize) -> Result<&'a [u8], Short>
         ensures bytes { Gives (λ x. x.now) result self.old self.new (bytes_at n self.old) }
         ensures len { IfOk result (λ x. length x.now ≡ n) }
@@ -128,7 +125,7 @@ impl<'a> Ndr<'a> {
         Ok(front)
     }
 
-    /// Reads the n bytes at the next multiple of n.
+    /// Reads the `n` bytes at the next multiple of `n`. Err: the bytes end too early.
     #[tactic(auto, unfolding(crate::specs::Reading::slot_at))]
     fn slot(&mut self, n: usize) -> Result<&'a [u8], Short>
         requires above { 0 < n }
@@ -147,41 +144,41 @@ impl<'a> Ndr<'a> {
         Ok(&front[gap..])
     }
 
-    /// Reads the next byte.
-    #[tactic(auto, unfolding(crate::specs::Reading::unit_at, crate::specs::Reading::bind, crate::specs::Reading::give))]
+    /// Reads the next byte. Err: none is left.
+    #[tactic(auto, unfolding(crate::specs::Reading::unit_at, crate::specs::promise::Reading::bind, crate::specs::promise::Reading::give))]
     pub fn u8(&mut self) -> Result<u8, Short>
         ensures { Gives (λ x. x) result self.old self.new (unit_at 1 self.old) }
     {
         Ok(self.slot(1)?[0])
     }
 
-    /// Reads the u16 at the next multiple of 2.
-    #[tactic(auto, unfolding(crate::specs::Reading::unit_at, crate::specs::Reading::bind, crate::specs::Reading::give))]
+    /// Reads the little-endian u16 at the next multiple of 2. Err: the bytes end too early.
+    #[tactic(auto, unfolding(crate::specs::Reading::unit_at, crate::specs::promise::Reading::bind, crate::specs::promise::Reading::give))]
     pub fn u16(&mut self) -> Result<u16, Short>
         ensures { Gives (λ x. x) result self.old self.new (unit_at 2 self.old) }
     {
         Ok(LittleEndian::read_u16(self.slot(2)?))
     }
 
-    /// Reads the u32 at the next multiple of 4.
-    #[tactic(auto, unfolding(crate::specs::Reading::unit_at, crate::specs::Reading::bind, crate::specs::Reading::give))]
+    /// Reads the little-endian u32 at the next multiple of 4. Err: the bytes end too early.
+    #[tactic(auto, unfolding(crate::specs::Reading::unit_at, crate::specs::promise::Reading::bind, crate::specs::promise::Reading::give))]
     pub fn u32(&mut self) -> Result<u32, Short>
         ensures { Gives (λ x. x) result self.old self.new (unit_at 4 self.old) }
     {
         Ok(LittleEndian::read_u32(self.slot(4)?))
     }
 
-    /// Reads the u64 at the next multiple of 8.
-    #[tactic(auto, unfolding(crate::specs::Reading::unit_at, crate::specs::Reading::bind, crate::specs::Reading::give))]
+    /// Reads the little-endian u64 at the next multiple of 8. Err: the bytes end too early.
+    #[tactic(auto, unfolding(crate::specs::Reading::unit_at, crate::specs::promise::Reading::bind, crate::specs::promise::Reading::give))]
     pub fn u64(&mut self) -> Result<u64, Short>
         ensures { Gives (λ x. x) result self.old self.new (unit_at 8 self.old) }
     {
         Ok(LittleEndian::read_u64(self.slot(8)?))
     }
 
-    /// Reads the referent of a unique pointer at the next multiple of 4, and returns whether it is set: 0 is null, every other number is
-    /// not (C706 14.3.12).
-    #[tactic(auto, unfolding(crate::specs::Reading::referent_at, crate::specs::Reading::bind, crate::specs::Reading::give))]
+    /// Reads the referent of a unique pointer at the next multiple of 4, and returns whether it is
+    /// set: 0 is null, every other number is not (C706 14.3.12). Err: the bytes end too early.
+    #[tactic(auto, unfolding(crate::specs::Reading::referent_at, crate::specs::promise::Reading::bind, crate::specs::promise::Reading::give))]
     pub fn referent(&mut self) -> Result<bool, Short>
         ensures { Gives (λ x. x) result self.old self.new (referent_at self.old) }
     {

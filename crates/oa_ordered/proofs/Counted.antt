@@ -1,5 +1,6 @@
 -- The order and the number of entries, behind calls of a map.
-use Rattle.std.proofs.Common.{◌≡◌, ◌∙◌, ◌+◌, ◌<◌, ◌^◌, ◌-◌, ℕ, Result, Ok, Err, OnOk, OnErr, suc, Bool, true, false, cond, List, [], ◌∷◌, Option, Some, None, length, refl, sym, ap, subst, arith}
+use Rattle.std.proofs.Common.{◌≡◌, ◌∙◌, ◌+◌, ◌<◌, ◌^◌, ◌-◌, ℕ, Result, Ok, Err, OnOk, OnErr, suc, Bool, true, false, cond, List, [], ◌∷◌, Option, Some, None}
+use Rattle.std.proofs.Common.{length, refl, sym, ap, subst, arith}
 use mathlib.Core.Bool.{true≢false}
 use Rattle.std.specs.List.Sorted.{IsStrictlySortedBy}
 use Rattle.std.specs.List.{AllByRecursion}
@@ -34,7 +35,8 @@ module _ {K X : Type 0} (cmp : K → K → Ordering) (total : IsTotalOrder cmp) 
   keys_insert P [] v all more = (more, tt)
   keys_insert P (e ∷ es) v all more = by_case (cmp key e.0) (keys_insert P es v all.1 more)
     where
-      by_case : (o : Ordering) → AllByRecursion P (keys_of (insert_entry cmp es key v)) → AllByRecursion P (keys_of (match_ordering o ((key, v) ∷ e ∷ es) ((e.0, v) ∷ es) (e ∷ insert_entry cmp es key v)))
+      by_case : (o : Ordering) → AllByRecursion P (keys_of (insert_entry cmp es key v))
+          → AllByRecursion P (keys_of (match_ordering o ((key, v) ∷ e ∷ es) ((e.0, v) ∷ es) (e ∷ insert_entry cmp es key v)))
       by_case Less rest = (more, all)
       by_case Equal rest = all
       by_case Greater rest = (all.0, rest)
@@ -44,7 +46,8 @@ module _ {K X : Type 0} (cmp : K → K → Ordering) (total : IsTotalOrder cmp) 
   insert_ordered [] v rises = (tt, tt)
   insert_ordered (e ∷ es) v rises = by_case (cmp key e.0) refl (insert_ordered es v rises.1)
     where
-      by_case : (o : Ordering) → cmp key e.0 ≡ o → IsOrdered cmp (insert_entry cmp es key v) → IsOrdered cmp (match_ordering o ((key, v) ∷ e ∷ es) ((e.0, v) ∷ es) (e ∷ insert_entry cmp es key v))
+      by_case : (o : Ordering) → cmp key e.0 ≡ o → IsOrdered cmp (insert_entry cmp es key v)
+          → IsOrdered cmp (match_ordering o ((key, v) ∷ e ∷ es) ((e.0, v) ∷ es) (e ∷ insert_entry cmp es key v))
       by_case Less is rest = ordered_with cmp total key [] v (e ∷ es) rises tt (above_of cmp total key e es rises is)
       by_case Equal is rest = rises
       by_case Greater is rest = (keys_insert (λ q. cmp e.0 q ≡ Less) es v rises.0 (total.antisymm e.0 key ∙ ap ordering_reverse is), rest)
@@ -53,7 +56,9 @@ module _ {K X : Type 0} (cmp : K → K → Ordering) (total : IsTotalOrder cmp) 
   insert_more [] v none = refl
   insert_more (e ∷ es) v none = by_case (cmp key e.0) (insert_more es v) none
     where
-      by_case : (o : Ordering) → (lookup (is_at (cmp key)) es ≡ None → length (insert_entry cmp es key v) ≡ length es + 1) → cond (is_eq o) (Some e.1) (lookup (is_at (cmp key)) es) ≡ None → length (match_ordering o ((key, v) ∷ e ∷ es) ((e.0, v) ∷ es) (e ∷ insert_entry cmp es key v)) ≡ suc (length es) + 1
+      by_case : (o : Ordering) → (lookup (is_at (cmp key)) es ≡ None → length (insert_entry cmp es key v) ≡ length es + 1)
+          → cond (is_eq o) (Some e.1) (lookup (is_at (cmp key)) es) ≡ None
+          → length (match_ordering o ((key, v) ∷ e ∷ es) ((e.0, v) ∷ es) (e ∷ insert_entry cmp es key v)) ≡ suc (length es) + 1
       by_case Less rest absent = omega arith
       by_case Equal rest absent = absurd (some_is_not_none e.1 (Some e.1) refl absent)
       by_case Greater rest absent = omega (arith, rest absent)
@@ -63,8 +68,11 @@ module _ {K X : Type 0} (cmp : K → K → Ordering) (total : IsTotalOrder cmp) 
   insert_same [] v x rises some = absurd (some_is_not_none x None some refl)
   insert_same (e ∷ es) v x rises some = by_case (cmp key e.0) refl (insert_same es v x rises.1) some
     where
-      by_case : (o : Ordering) → cmp key e.0 ≡ o → (lookup (is_at (cmp key)) es ≡ Some x → length (insert_entry cmp es key v) ≡ length es) → cond (is_eq o) (Some e.1) (lookup (is_at (cmp key)) es) ≡ Some x → length (match_ordering o ((key, v) ∷ e ∷ es) ((e.0, v) ∷ es) (e ∷ insert_entry cmp es key v)) ≡ suc (length es)
-      by_case Less is rest found = absurd (some_is_not_none x (lookup (is_at (cmp key)) es) found (lookup_gap cmp key [] es tt (above_of cmp total key e es rises is).1))
+      by_case : (o : Ordering) → cmp key e.0 ≡ o → (lookup (is_at (cmp key)) es ≡ Some x → length (insert_entry cmp es key v) ≡ length es)
+          → cond (is_eq o) (Some e.1) (lookup (is_at (cmp key)) es) ≡ Some x
+          → length (match_ordering o ((key, v) ∷ e ∷ es) ((e.0, v) ∷ es) (e ∷ insert_entry cmp es key v)) ≡ suc (length es)
+      by_case Less is rest found =
+          absurd (some_is_not_none x (lookup (is_at (cmp key)) es) found (lookup_gap cmp key [] es tt (above_of cmp total key e es rises is).1))
       by_case Equal is rest found = refl
       by_case Greater is rest found = ap suc (rest found)
 
@@ -78,7 +86,8 @@ module _ {K X : Type 0} (cmp : K → K → Ordering) (total : IsTotalOrder cmp) 
       by_case Greater = omega arith
 
   -- there are entries, whatever a call answered that would set one
-  pub some_after : {T E : Type 0} (r : Result T E) (old new : List (K × X)) (v : X) → 0 < length old → OnOk r (new ≡ insert_entry cmp old key v) → OnErr r (new ≡ old) → 0 < length new
+  pub some_after : {T E : Type 0} (r : Result T E) (old new : List (K × X)) (v : X) → 0 < length old → OnOk r (new ≡ insert_entry cmp old key v)
+      → OnErr r (new ≡ old) → 0 < length new
   some_after (Ok x) old new v some ok err = rw ok (insert_some old v)
   some_after (Err e) old new v some ok err = rw err some
 
@@ -86,7 +95,8 @@ module _ {K X : Type 0} (cmp : K → K → Ordering) (total : IsTotalOrder cmp) 
   keys_remove P [] all = tt
   keys_remove P (e ∷ es) all = by_case (is_at (cmp key) e.0) (keys_remove P es all.1)
     where
-      by_case : (b : Bool) → AllByRecursion P (keys_of (remove_entry (is_at (cmp key)) es)) → AllByRecursion P (keys_of (cond b es (e ∷ remove_entry (is_at (cmp key)) es)))
+      by_case : (b : Bool) → AllByRecursion P (keys_of (remove_entry (is_at (cmp key)) es))
+          → AllByRecursion P (keys_of (cond b es (e ∷ remove_entry (is_at (cmp key)) es)))
       by_case true rest = all.1
       by_case false rest = (all.0, rest)
 
@@ -103,7 +113,8 @@ module _ {K X : Type 0} (cmp : K → K → Ordering) (total : IsTotalOrder cmp) 
   remove_less [] x some = absurd (some_is_not_none x None some refl)
   remove_less (e ∷ es) x some = by_case (is_at (cmp key) e.0) (remove_less es x) some
     where
-      by_case : (b : Bool) → (lookup (is_at (cmp key)) es ≡ Some x → length es ≡ length (remove_entry (is_at (cmp key)) es) + 1) → cond b (Some e.1) (lookup (is_at (cmp key)) es) ≡ Some x → suc (length es) ≡ length (cond b es (e ∷ remove_entry (is_at (cmp key)) es)) + 1
+      by_case : (b : Bool) → (lookup (is_at (cmp key)) es ≡ Some x → length es ≡ length (remove_entry (is_at (cmp key)) es) + 1)
+          → cond b (Some e.1) (lookup (is_at (cmp key)) es) ≡ Some x → suc (length es) ≡ length (cond b es (e ∷ remove_entry (is_at (cmp key)) es)) + 1
       by_case true rest found = omega arith
       by_case false rest found = omega (arith, rest found)
 
@@ -111,7 +122,8 @@ module _ {K X : Type 0} (cmp : K → K → Ordering) (total : IsTotalOrder cmp) 
   remove_none [] none = refl
   remove_none (e ∷ es) none = by_case (is_at (cmp key) e.0) (remove_none es) none
     where
-      by_case : (b : Bool) → (lookup (is_at (cmp key)) es ≡ None → remove_entry (is_at (cmp key)) es ≡ es) → cond b (Some e.1) (lookup (is_at (cmp key)) es) ≡ None → cond b es (e ∷ remove_entry (is_at (cmp key)) es) ≡ e ∷ es
+      by_case : (b : Bool) → (lookup (is_at (cmp key)) es ≡ None → remove_entry (is_at (cmp key)) es ≡ es)
+          → cond b (Some e.1) (lookup (is_at (cmp key)) es) ≡ None → cond b es (e ∷ remove_entry (is_at (cmp key)) es) ≡ e ∷ es
       by_case true rest absent = absurd (some_is_not_none e.1 (Some e.1) refl absent)
       by_case false rest absent = ap (λ all. e ∷ all) (rest absent)
 
@@ -133,7 +145,8 @@ module _ {K X : Type 0} (cmp : K → K → Ordering) (total : IsTotalOrder cmp) 
       few = map.few;
     }
 
-    pub map_changed : (v x : X) → entries_of new ≡ insert_entry cmp (entries_of root) key v → lookup (is_at (cmp key)) (entries_of root) ≡ Some x → IsMap cmp new len
+    pub map_changed : (v x : X) → entries_of new ≡ insert_entry cmp (entries_of root) key v → lookup (is_at (cmp key)) (entries_of root) ≡ Some x
+        → IsMap cmp new len
     map_changed v x is there = record {
       ordered = subst (IsOrdered cmp) (sym is) (insert_ordered (entries_of root) v map.ordered);
       filled = filled;
@@ -141,7 +154,8 @@ module _ {K X : Type 0} (cmp : K → K → Ordering) (total : IsTotalOrder cmp) 
       few = map.few;
     }
 
-    pub map_inserted : (v : X) → len < 2 ^ 63 - 1 → entries_of new ≡ insert_entry cmp (entries_of root) key v → lookup (is_at (cmp key)) (entries_of root) ≡ None → IsMap cmp new (len + 1)
+    pub map_inserted : (v : X) → len < 2 ^ 63 - 1 → entries_of new ≡ insert_entry cmp (entries_of root) key v
+        → lookup (is_at (cmp key)) (entries_of root) ≡ None → IsMap cmp new (len + 1)
     map_inserted v most is absent = record {
       ordered = subst (IsOrdered cmp) (sym is) (insert_ordered (entries_of root) v map.ordered);
       filled = filled;
@@ -149,7 +163,8 @@ module _ {K X : Type 0} (cmp : K → K → Ordering) (total : IsTotalOrder cmp) 
       few = omega (arith, map.few, most);
     }
 
-    pub map_removed : (x : X) → entries_of new ≡ remove_entry (is_at (cmp key)) (entries_of root) → lookup (is_at (cmp key)) (entries_of root) ≡ Some x → IsMap cmp new (len - 1)
+    pub map_removed : (x : X) → entries_of new ≡ remove_entry (is_at (cmp key)) (entries_of root) → lookup (is_at (cmp key)) (entries_of root) ≡ Some x
+        → IsMap cmp new (len - 1)
     map_removed x is there = record {
       ordered = subst (IsOrdered cmp) (sym is) (remove_ordered (entries_of root) map.ordered);
       filled = filled;

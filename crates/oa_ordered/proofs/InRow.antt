@@ -7,7 +7,7 @@ use Rattle.std.specs.BTreeMap.{insert_entry, is_at}
 use Rattle.std.specs.declared.cmp.Ordering.{Ordering}
 use Rattle.std.specs.declared.cmp.Ordering.TheVariants.{Equal}
 use Rattle.std.proofs.lemmas.List.{take-append-drop}
-use Rattle.oa_ordered.specs.Rows.{IsFirst, IsFoundIn, IsGapIn, with_value}
+use Rattle.oa_ordered.specs.Rows.{IsFirst, IsFoundIn, IsGapIn, with_value_at}
 use Rattle.oa_ordered.proofs.Joined.{drop_next, get_is, parts_at, some_at, value_at}
 use Rattle.oa_ordered.proofs.Split.{insert_gap, insert_here, lookup_gap, lookup_here, remove_gap, remove_here, set_gap, set_here}
 
@@ -40,11 +40,13 @@ module _ {K X : Type 0} (cmp : K → K → Ordering) (key : K) (es : List (K × 
     pub row_lookup : (e d : K × X) → e ≡ get_or es at d → lookup (is_at (cmp key)) es ≡ Some e.1
     row_lookup e d is = sym row_read ∙ ap (option_map (λ x. x.1)) (get_is es at e d there.place is)
 
-    pub row_set : (w : X) → with_value es at w ≡ set_value (is_at (cmp key)) es w
-    row_set w = value_at es at entry.0 entry.0 w there.place entry.1 ∙ sym (ap (λ all. set_value (is_at (cmp key)) all w) parts ∙ set_here cmp key entry.0 back here front w there.below)
+    pub row_set : (w : X) → with_value_at es at w ≡ set_value (is_at (cmp key)) es w
+    row_set w = value_at es at entry.0 entry.0 w there.place entry.1
+        ∙ sym (ap (λ all. set_value (is_at (cmp key)) all w) parts ∙ set_here cmp key entry.0 back here front w there.below)
 
-    pub row_insert : (w : X) → with_value es at w ≡ insert_entry cmp es key w
-    row_insert w = value_at es at entry.0 entry.0 w there.place entry.1 ∙ sym (ap (λ all. insert_entry cmp all key w) parts ∙ insert_here cmp key entry.0 back here front w there.below)
+    pub row_insert : (w : X) → with_value_at es at w ≡ insert_entry cmp es key w
+    row_insert w = value_at es at entry.0 entry.0 w there.place entry.1
+        ∙ sym (ap (λ all. insert_entry cmp all key w) parts ∙ insert_here cmp key entry.0 back here front w there.below)
 
     pub row_remove : remove es at ≡ remove_entry (is_at (cmp key)) es
     row_remove = sym (ap (remove_entry (is_at (cmp key))) parts ∙ remove_here cmp key entry.0 back here front there.below)
@@ -66,4 +68,5 @@ module _ {K X : Type 0} (cmp : K → K → Ordering) (key : K) (es : List (K × 
     row_gap_remove = ap (remove_entry (is_at (cmp key))) halves ∙ (remove_gap cmp key (take at es) (drop at es) free.below free.above ∙ take-append-drop at es)
 
     pub row_gap_set : (w : X) → set_value (is_at (cmp key)) es w ≡ es
-    row_gap_set w = ap (λ all. set_value (is_at (cmp key)) all w) halves ∙ (set_gap cmp key (take at es) (drop at es) w free.below free.above ∙ take-append-drop at es)
+    row_gap_set w = ap (λ all. set_value (is_at (cmp key)) all w) halves
+        ∙ (set_gap cmp key (take at es) (drop at es) w free.below free.above ∙ take-append-drop at es)

@@ -24,7 +24,8 @@ module _ {X : Type 0} (P : X → Type 0) where
   all_back (x ∷ xs) ys all = all_back xs ys all.1
 
 -- a key that is not below another is above all that are below that one
-past : {K : Type 0} (cmp : K → K → Ordering) → IsTotalOrder cmp → (key q e : K) → cmp q e ≡ Less → (r : Ordering) → cmp key e ≡ r → is_lt r ≡ false → cmp key q ≡ Greater
+past : {K : Type 0} (cmp : K → K → Ordering) → IsTotalOrder cmp → (key q e : K) → cmp q e ≡ Less → (r : Ordering) → cmp key e ≡ r → is_lt r ≡ false
+    → cmp key q ≡ Greater
 past cmp total key q e below Less is not = absurd (true≢false not)
 past cmp total key q e below Equal is not = total.congr key e q is ∙ (total.antisymm e q ∙ ap ordering_reverse below)
 past cmp total key q e below Greater is not =
@@ -41,7 +42,8 @@ module _ {K X : Type 0} (cmp : K → K → Ordering) where
   keys_back P [] back all = all
   keys_back P (e ∷ front) back all = keys_back P front back all.1
 
-  keys_join : (P : K → Type 0) (front back : List (K × X)) → AllByRecursion P (keys_of front) → AllByRecursion P (keys_of back) → AllByRecursion P (keys_of (front ++ back))
+  keys_join : (P : K → Type 0) (front back : List (K × X)) → AllByRecursion P (keys_of front) → AllByRecursion P (keys_of back)
+      → AllByRecursion P (keys_of (front ++ back))
   keys_join P [] back all more = more
   keys_join P (e ∷ front) back all more = (all.0, keys_join P front back all.1 more)
 
@@ -57,10 +59,12 @@ module _ {K X : Type 0} (cmp : K → K → Ordering) where
 
   module _ (total : IsTotalOrder cmp) (key : K) where
     -- the keys in front of an entry that is not above the key are below it
-    pub below_of : (front : List (K × X)) (e : K × X) (back : List (K × X)) → IsOrdered cmp (front ++ e ∷ back) → is_lt (cmp key e.0) ≡ false → AllBelow cmp key front
+    pub below_of : (front : List (K × X)) (e : K × X) (back : List (K × X)) → IsOrdered cmp (front ++ e ∷ back) → is_lt (cmp key e.0) ≡ false
+        → AllBelow cmp key front
     unfolding IsStrictlySortedBy
     below_of [] e back rises not = tt
-    below_of (f ∷ front) e back rises not = (past cmp total key f.0 e.0 (keys_back (λ q. cmp f.0 q ≡ Less) front (e ∷ back) rises.0).0 (cmp key e.0) refl not, below_of front e back rises.1 not)
+    below_of (f ∷ front) e back rises not =
+        (past cmp total key f.0 e.0 (keys_back (λ q. cmp f.0 q ≡ Less) front (e ∷ back) rises.0).0 (cmp key e.0) refl not, below_of front e back rises.1 not)
 
     above_all : (q : K) (es : List (K × X)) → cmp key q ≡ Less → AllByRecursion (λ k. cmp q k ≡ Less) (keys_of es) → AllAbove cmp key es
     above_all q [] less all = tt
@@ -76,11 +80,13 @@ module _ {K X : Type 0} (cmp : K → K → Ordering) where
     turned (e ∷ es) all = (all.0, turned es all.1)
 
     -- with a new entry between those below its key and those above
-    pub ordered_with : (front : List (K × X)) (v : X) (back : List (K × X)) → IsOrdered cmp (front ++ back) → AllBelow cmp key front → AllAbove cmp key back → IsOrdered cmp (front ++ (key, v) ∷ back)
+    pub ordered_with : (front : List (K × X)) (v : X) (back : List (K × X)) → IsOrdered cmp (front ++ back) → AllBelow cmp key front → AllAbove cmp key back
+        → IsOrdered cmp (front ++ (key, v) ∷ back)
     unfolding IsStrictlySortedBy
     ordered_with [] v back rises below above = (turned back above, rises)
     ordered_with (f ∷ front) v back rises below above =
         let less : cmp f.0 key ≡ Less = total.antisymm f.0 key ∙ ap ordering_reverse below.0 in (
-          keys_join (λ q. cmp f.0 q ≡ Less) front ((key, v) ∷ back) (keys_front (λ q. cmp f.0 q ≡ Less) front back rises.0) (less, keys_back (λ q. cmp f.0 q ≡ Less) front back rises.0),
+          keys_join (λ q. cmp f.0 q ≡ Less) front ((key, v) ∷ back) (keys_front (λ q. cmp f.0 q ≡ Less) front back rises.0)
+              (less, keys_back (λ q. cmp f.0 q ≡ Less) front back rises.0),
           ordered_with front v back rises.1 below.1 above,
         )

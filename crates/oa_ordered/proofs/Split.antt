@@ -16,7 +16,8 @@ module _ {K X : Type 0} (cmp : K → K → Ordering) (key : K) where
   lookup_gap [] back below above = none_above back above
   lookup_gap (e ∷ front) back below above = rw below.0 (lookup_gap front back below.1 above)
 
-  pub insert_gap : (front : List (K × X)) (v : X) (back : List (K × X)) → AllBelow cmp key front → AllAbove cmp key back → insert_entry cmp (front ++ back) key v ≡ front ++ (key, v) ∷ back
+  pub insert_gap : (front : List (K × X)) (v : X) (back : List (K × X)) → AllBelow cmp key front → AllAbove cmp key back
+      → insert_entry cmp (front ++ back) key v ≡ front ++ (key, v) ∷ back
   insert_gap [] v [] below above = refl
   insert_gap [] v (e ∷ back) below above = rw above.0 refl
   insert_gap (f ∷ front) v back below above = rw below.0 (ap (λ es. f ∷ es) (insert_gap front v back below.1 above))
@@ -33,7 +34,8 @@ module _ {K X : Type 0} (cmp : K → K → Ordering) (key : K) where
   set_above [] w above = refl
   set_above (e ∷ back) w above = rw above.0 (ap (λ es. e ∷ es) (set_above back w above.1))
 
-  pub set_gap : (front back : List (K × X)) (w : X) → AllBelow cmp key front → AllAbove cmp key back → set_value (is_at (cmp key)) (front ++ back) w ≡ front ++ back
+  pub set_gap : (front back : List (K × X)) (w : X) → AllBelow cmp key front → AllAbove cmp key back
+      → set_value (is_at (cmp key)) (front ++ back) w ≡ front ++ back
   set_gap [] back w below above = set_above back w above
   set_gap (f ∷ front) back w below above = rw below.0 (ap (λ es. f ∷ es) (set_gap front back w below.1 above))
 

@@ -3,13 +3,13 @@ use Rattle.std.specs.Prelude.{◌≡◌, ◌<◌, ◌^◌, ℕ, List, length}
 use Rattle.std.specs.declared.cmp.Ordering.{Ordering}
 use Rattle.oa_ordered.specs.declared.root.Root.{Root}
 use Rattle.oa_ordered.specs.declared.root.Root.TheVariants.{One, Many}
-use Rattle.oa_ordered.specs.Rows.{AreFilled, IsOrdered, joined}
+use Rattle.oa_ordered.specs.Rows.{AreFilled, IsOrdered, concat_rows}
 
 module _ {K X : Type 0} where
   -- the entries, and whether no branch is empty
   abbrev pub entries_of : Root K X → List (K × X)
   entries_of (One row) = row
-  entries_of (Many branches) = joined branches.items
+  entries_of (Many branches) = concat_rows branches.items
 
   abbrev pub IsFilled : Root K X → Type 0
   IsFilled (One row) = Unit {0}

@@ -10,24 +10,24 @@ use Rattle.std.specs.declared.cmp.Ordering.TheVariants.{Less, Equal, Greater}
 
 module _ {K X : Type 0} where
   -- the entries of the rows, one row after the other
-  abbrev pub joined : List (List (K × X)) → List (K × X)
-  joined rows = flat_map (λ row. row) rows
+  abbrev pub concat_rows : List (List (K × X)) → List (K × X)
+  concat_rows rows = flat_map (λ row. row) rows
 
   -- the entries before a place, those from it on, and those after it
-  abbrev pub before : List (List (K × X)) → ℕ → ℕ → List (K × X)
-  before rows row at = joined (take row rows) ++ take at (slice_index_or rows row [])
+  abbrev pub entries_before : List (List (K × X)) → ℕ → ℕ → List (K × X)
+  entries_before rows row at = concat_rows (take row rows) ++ take at (slice_index_or rows row [])
 
   abbrev pub from : List (List (K × X)) → ℕ → ℕ → List (K × X)
-  from rows row at = drop at (slice_index_or rows row []) ++ joined (drop (suc row) rows)
+  from rows row at = drop at (slice_index_or rows row []) ++ concat_rows (drop (suc row) rows)
 
-  abbrev pub after : List (List (K × X)) → ℕ → ℕ → List (K × X)
-  after rows row at = drop (suc at) (slice_index_or rows row []) ++ joined (drop (suc row) rows)
+  abbrev pub entries_after : List (List (K × X)) → ℕ → ℕ → List (K × X)
+  entries_after rows row at = drop (suc at) (slice_index_or rows row []) ++ concat_rows (drop (suc row) rows)
 
   -- the entries, with w as the value of the entry at a place
-  abbrev pub with_value : List (K × X) → ℕ → X → List (K × X)
-  with_value [] at w = []
-  with_value (e ∷ es) zero w = (e.0, w) ∷ es
-  with_value (e ∷ es) (suc at) w = e ∷ with_value es at w
+  abbrev pub with_value_at : List (K × X) → ℕ → X → List (K × X)
+  with_value_at [] at w = []
+  with_value_at (e ∷ es) zero w = (e.0, w) ∷ es
+  with_value_at (e ∷ es) (suc at) w = e ∷ with_value_at es at w
 
   -- no row is empty
   abbrev pub AreFilled : List (List (K × X)) → Type 0
@@ -40,7 +40,7 @@ module _ {K X : Type 0} where
 
     -- the keys rise, and no row is empty
     pub record AreOrdered (rows : List (List (K × X))) : Type 0 where
-      pub ordered : IsOrdered (joined rows)
+      pub ordered : IsOrdered (concat_rows rows)
       pub filled : AreFilled rows
 
     module _ (key : K) where
@@ -76,18 +76,18 @@ module _ {K X : Type 0} where
       pub record IsRowFor (rows : List (List (K × X))) (row : ℕ) : Type 0 where
         pub place : row ≤ length rows
         pub one : 0 < length rows → row < length rows
-        pub below : AllBelow (joined (take row rows))
-        pub above : AllAbove (joined (drop (suc row) rows))
+        pub below : AllBelow (concat_rows (take row rows))
+        pub above : AllAbove (concat_rows (drop (suc row) rows))
 
       -- the key is at a place in rows, or is to be inserted there
       pub record IsFound (rows : List (List (K × X))) (row at : ℕ) : Type 0 where
         pub in_rows : row < length rows
         pub in_row : at < length (slice_index_or rows row [])
-        pub below : AllBelow (before rows row at)
+        pub below : AllBelow (entries_before rows row at)
         pub here : IsFirst (from rows row at)
 
       pub record IsGap (rows : List (List (K × X))) (row at : ℕ) : Type 0 where
         pub in_rows : row ≤ length rows
         pub in_row : at ≤ length (slice_index_or rows row [])
-        pub below : AllBelow (before rows row at)
+        pub below : AllBelow (entries_before rows row at)
         pub above : AllAbove (from rows row at)

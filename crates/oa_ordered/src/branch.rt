@@ -4,7 +4,7 @@ ghost use Rattle.std.specs.Option.{option_copied_mut};
 ghost use Rattle.std.specs.Borrow.{sem};
 ghost use Rattle.std.specs.Map.{lookup, remove_entry};
 ghost use Rattle.std.specs.BTreeMap.{insert_entry, is_at};
-ghost use Rattle.oa_ordered.specs.Rows.{AreFilled, IsOrdered, begins_after, joined};
+ghost use Rattle.oa_ordered.specs.Rows.{AreFilled, IsOrdered, begins_after, concat_rows};
 
 use crate::row::Row;
 use crate::rows::{Search, insert_at, place_near, place_of, remove_at};
@@ -12,7 +12,7 @@ use std::alloc::{AllocError, AllocFailed, Global};
 use std::marker::Model;
 use std::mem::replace;
 
-/// How many rows a branch has before it is split.
+/// The number of rows of a full branch. A longer one is split.
 pub(crate) const FULL_BRANCH: usize = 128;
 
 /// Rows that are adjacent in the order of their keys.
@@ -23,11 +23,11 @@ pub(crate) struct Branch<K, V> {
 
 impl<K, V> Model for Branch<K, V> {
     ghost use Rattle.std.specs.Prelude.{List};
-    ghost use Rattle.oa_ordered.specs.Rows.{AreFilled, joined};
+    ghost use Rattle.oa_ordered.specs.Rows.{AreFilled, concat_rows};
 
     ghost Value = { List (K × V) };
 
-    ghost view = { λ b. joined b.rows.items };
+    ghost view = { λ b. concat_rows b.rows.items };
 
     ghost invariant = { λ b. AreFilled b.rows.items };
 }
@@ -38,14 +38,14 @@ impl<K, V> Branch<K, V> {
     /// Makes a branch of rows, none of which is empty.
     pub(crate) fn of_rows(rows: Vec<Row<K, V>>) -> Branch<K, V>
         requires { AreFilled rows.items }
-        ensures { result ≡ joined rows.items }
+        ensures { result ≡ concat_rows rows.items }
     {
         Branch { rows }
     }
 
     /// Returns the rows, none of which is empty.
     pub(crate) fn rows(&self) -> &[Row<K, V>]
-        ensures entries { joined result.now ≡ self.now }
+        ensures entries { concat_rows result.now ≡ self.now }
         ensures filled { AreFilled result.now }
     {
         self.rows.as_slice()
@@ -63,7 +63,8 @@ impl<K, V> Branch<K, V> {
         }
     }
 
-    /// Returns the value of a key. `near` has no effect on the result.
+    /// Returns the value of a key; None if it is not in the branch. `near`, a number of entries
+    /// before it, has no effect on the result.
     pub(crate) fn get_near(&self, key: &K, near: usize) -> Option<&V>
     where
         K: Ord,
@@ -76,7 +77,8 @@ impl<K, V> Branch<K, V> {
         }
     }
 
-    /// Returns the value of a key, to be changed. `near` has no effect on the result.
+    /// Returns the value of a key, to be changed; None if it is not in the branch. `near`, a number
+    /// of entries before it, has no effect on the result.
     pub(crate) fn get_mut_near(&mut self, key: &K, near: usize) -> Option<&mut V>
     where
         K: Ord,
@@ -90,7 +92,8 @@ impl<K, V> Branch<K, V> {
         }
     }
 
-    /// Sets the value of a key, and returns the one before.
+    /// Sets the value of a key, and returns the one before; None if the key is new. Err: an
+    /// allocation failed; key and value are returned.
     pub(crate) fn insert(
         &mut self,
         alloc: Global,
@@ -116,7 +119,7 @@ impl<K, V> Branch<K, V> {
         }
     }
 
-    /// Removes a key, and returns its value.
+    /// Removes a key, and returns its value; None if it is not in the branch.
     pub(crate) fn remove(&mut self, key: &K) -> Option<V>
     where
         K: Ord + Drop,
@@ -134,15 +137,15 @@ impl<K, V> Branch<K, V> {
         }
     }
 
-    /// Returns how many rows there are.
+    /// Returns the number of rows.
     pub(crate) fn len(&self) -> usize
         ensures { (result ≡ 0) ↔ (self.now ≡ []) }
     {
         self.rows.len()
     }
 
-    /// Keeps the rows before `at`, and returns those from there on as a branch of their own. Err: one of the two would
-    /// be empty, or an allocation failed; all rows stay.
+    /// Keeps the rows before row `at`, counted from 0, and returns those from there on as a branch
+    /// of their own. Err: one of the two would be empty, or an allocation failed; all rows stay.
     pub(crate) fn split_off(&mut self, at: usize) -> Result<Branch<K, V>, AllocError>
         ensures ok { IfOk result (λ rest. self.new ++ rest ≡ self.old) }
         ensures kept { OnOk result (0 < length self.new) }

@@ -3,7 +3,7 @@ ghost use Rattle.std.specs.Prelude.{◌≡◌, ◌<◌, ◌+◌, ◌++◌, ◌�
 ghost use Rattle.std.specs.List.{remove};
 ghost use Rattle.std.specs.Map.{lookup, remove_entry};
 ghost use Rattle.std.specs.BTreeMap.{insert_entry, is_at};
-ghost use Rattle.oa_ordered.specs.Rows.{AreFilled, AreOrdered, IsRowFor, joined};
+ghost use Rattle.oa_ordered.specs.Rows.{AreFilled, AreOrdered, IsRowFor, concat_rows};
 
 use crate::branch::{Branch, FULL_BRANCH};
 use crate::row::{Row, make_room};
@@ -11,10 +11,10 @@ use crate::rows::FULL;
 use std::alloc::{AllocError, AllocFailed, Global};
 use std::mem::replace;
 
-/// How many rows stay in a full branch that is split between others.
+/// The number of rows that stay in a full branch that is split between others.
 const HALF_BRANCH: usize = FULL_BRANCH / 2;
 
-/// How many entries are in a full branch of full rows.
+/// The number of entries of a full branch of full rows.
 pub(crate) const BRANCH_ENTRIES: usize = FULL_BRANCH * FULL;
 
 /// Returns whether the key is in this branch if it is in any.
@@ -32,8 +32,9 @@ fn is_branch_for<K: Ord, V>(branches: &[Branch<K, V>], key: &K, branch: usize) -
     branches[branch + 1].begins_after(key)
 }
 
-/// Returns the branch in which the key is or belongs: the last that begins at or before it, or else the first. If
-/// `near` is not the first one, it looks there first.
+/// Returns the number of the branch in which the key is or belongs: the last that begins at or
+/// before it, or otherwise the first. If `near` is not the first one, it looks in branch `near`
+/// first.
 pub(crate) fn branch_for<K: Ord, V>(branches: &[Branch<K, V>], key: &K, near: usize) -> usize
     requires { AreOrdered K.cmp branches.now }
     ensures { IsRowFor K.cmp key.now branches.now result }
@@ -56,12 +57,12 @@ pub(crate) fn branch_for<K: Ord, V>(branches: &[Branch<K, V>], key: &K, near: us
     low
 }
 
-/// Splits a branch that is longer than a full one; if an allocation fails, it stays as it is. The last one keeps its
-/// first `FULL_BRANCH` rows, so that rising keys fill the branches.
+/// Splits a branch that is longer than a full one; if an allocation fails, it stays as it is. The
+/// last one keeps its first `FULL_BRANCH` rows, so that rising keys fill the branches.
 fn split_long_branch<K: Drop, V: Drop>(branches: &mut Vec<Branch<K, V>>, branch: usize)
     requires branch { branch < length branches.old.items }
     requires filled { AreFilled branches.old.items }
-    ensures same { joined branches.new.items ≡ joined branches.old.items }
+    ensures same { concat_rows branches.new.items ≡ concat_rows branches.old.items }
     ensures filled { AreFilled branches.new.items }
 {
     if branches[branch].len() <= FULL_BRANCH {
@@ -77,7 +78,8 @@ fn split_long_branch<K: Drop, V: Drop>(branches: &mut Vec<Branch<K, V>>, branch:
     };
 }
 
-/// Splits a branch in two.
+/// Splits a branch in two, of which the first keeps `keep` rows. Err: an allocation failed or a
+/// part would be empty; all rows stay.
 fn split_branch<K: Drop, V: Drop>(
     branches: &mut Vec<Branch<K, V>>,
     branch: usize,
@@ -85,7 +87,7 @@ fn split_branch<K: Drop, V: Drop>(
 ) -> Result<(), AllocError>
     requires branch { branch < length branches.old.items }
     requires filled { AreFilled branches.old.items }
-    ensures same { joined branches.new.items ≡ joined branches.old.items }
+    ensures same { concat_rows branches.new.items ≡ concat_rows branches.old.items }
     ensures filled { AreFilled branches.new.items }
 {
     make_room(branches)?;
@@ -96,7 +98,8 @@ fn split_branch<K: Drop, V: Drop>(
     Ok(())
 }
 
-/// Sets the value of a key in its branch, and returns the one before.
+/// Sets the value of a key in its branch, and returns the one before; None if the key is new. Err:
+/// an allocation failed; key and value are returned.
 fn insert_in_branch<K: Ord + Drop, V: Drop>(
     alloc: Global,
     branches: &mut Vec<Branch<K, V>>,
@@ -107,10 +110,10 @@ fn insert_in_branch<K: Ord + Drop, V: Drop>(
     requires branch { branch < length branches.old.items }
     requires for_key { IsRowFor K.cmp key branches.old.items branch }
     requires in_order { AreOrdered K.cmp branches.old.items }
-    ensures old { IfOk result (λ old. old ≡ lookup (is_at (K.cmp key)) (joined branches.old.items)) }
-    ensures entries { OnOk result (joined branches.new.items ≡ insert_entry K.cmp (joined branches.old.items) key value) }
+    ensures old { IfOk result (λ old. old ≡ lookup (is_at (K.cmp key)) (concat_rows branches.old.items)) }
+    ensures entries { OnOk result (concat_rows branches.new.items ≡ insert_entry K.cmp (concat_rows branches.old.items) key value) }
     ensures handed_back { IfErr result (λ failed. failed.value ≡ (key, value)) }
-    ensures absent { OnErr result (lookup (is_at (K.cmp key)) (joined branches.old.items) ≡ None) }
+    ensures absent { OnErr result (lookup (is_at (K.cmp key)) (concat_rows branches.old.items) ≡ None) }
     ensures err { OnErr result (branches.new.items ≡ branches.old.items) }
     ensures filled { AreFilled branches.new.items }
     ensures count { length branches.new.items ≡ length branches.old.items }
@@ -118,7 +121,8 @@ fn insert_in_branch<K: Ord + Drop, V: Drop>(
     branches[branch].insert(alloc, key, value)
 }
 
-/// Sets the value of a key, and returns the one before.
+/// Sets the value of a key, and returns the one before; None if the key is new. Err: an allocation
+/// failed; key and value are returned.
 pub(crate) fn insert_in<K: Ord + Drop, V: Drop>(
     alloc: Global,
     branches: &mut Vec<Branch<K, V>>,
@@ -127,11 +131,11 @@ pub(crate) fn insert_in<K: Ord + Drop, V: Drop>(
 ) -> Result<Option<V>, AllocFailed<(K, V)>>
     requires some { 0 < length branches.old.items }
     requires in_order { AreOrdered K.cmp branches.old.items }
-    ensures old { IfOk result (λ old. old ≡ lookup (is_at (K.cmp key)) (joined branches.old.items)) }
-    ensures entries { OnOk result (joined branches.new.items ≡ insert_entry K.cmp (joined branches.old.items) key value) }
+    ensures old { IfOk result (λ old. old ≡ lookup (is_at (K.cmp key)) (concat_rows branches.old.items)) }
+    ensures entries { OnOk result (concat_rows branches.new.items ≡ insert_entry K.cmp (concat_rows branches.old.items) key value) }
     ensures handed_back { IfErr result (λ failed. failed.value ≡ (key, value)) }
-    ensures absent { OnErr result (lookup (is_at (K.cmp key)) (joined branches.old.items) ≡ None) }
-    ensures err { OnErr result (joined branches.new.items ≡ joined branches.old.items) }
+    ensures absent { OnErr result (lookup (is_at (K.cmp key)) (concat_rows branches.old.items) ≡ None) }
+    ensures err { OnErr result (concat_rows branches.new.items ≡ concat_rows branches.old.items) }
     ensures filled { AreFilled branches.new.items }
 {
     let branch = branch_for(branches, &key, branches.len() - 1);
@@ -151,14 +155,15 @@ fn drop_branch<K: Drop, V: Drop>(branches: &mut Vec<Branch<K, V>>, branch: usize
     }
 }
 
-/// Removes a key, and returns its value. A branch is removed with its last entry.
+/// Removes a key, and returns its value; None if it is in no branch. A branch is removed with its
+/// last entry.
 pub(crate) fn remove_in<K: Ord + Drop, V: Drop>(
     branches: &mut Vec<Branch<K, V>>,
     key: &K,
 ) -> Option<V>
     requires { AreOrdered K.cmp branches.old.items }
-    ensures value { result ≡ lookup (is_at (K.cmp key.now)) (joined branches.old.items) }
-    ensures entries { joined branches.new.items ≡ remove_entry (is_at (K.cmp key.now)) (joined branches.old.items) }
+    ensures value { result ≡ lookup (is_at (K.cmp key.now)) (concat_rows branches.old.items) }
+    ensures entries { concat_rows branches.new.items ≡ remove_entry (is_at (K.cmp key.now)) (concat_rows branches.old.items) }
     ensures filled { AreFilled branches.new.items }
 {
     let branch = branch_for(branches, key, 0);
@@ -172,8 +177,8 @@ pub(crate) fn remove_in<K: Ord + Drop, V: Drop>(
     value
 }
 
-/// Splits a row in two, and makes a branch of both. Err: an allocation failed or a part is empty, and the row has not
-/// changed.
+/// Splits a row in two, of which the first keeps `keep` entries, and returns a branch of both. Err:
+/// an allocation failed or a part would be empty, and the row has not changed.
 pub(crate) fn branches_of_row<K: Drop, V: Drop>(
     alloc: Global,
     row: &mut Row<K, V>,
@@ -181,7 +186,7 @@ pub(crate) fn branches_of_row<K: Drop, V: Drop>(
 ) -> Result<Vec<Branch<K, V>>, AllocError>
     requires some { 0 < keep }
     requires less { keep < length row.old }
-    ensures same { IfOk result (λ branches. joined branches.items ≡ row.old) }
+    ensures same { IfOk result (λ branches. concat_rows branches.items ≡ row.old) }
     ensures filled { IfOk result (λ branches. AreFilled branches.items) }
     ensures err { OnErr result (row.new ≡ row.old) }
 {
@@ -194,13 +199,14 @@ pub(crate) fn branches_of_row<K: Drop, V: Drop>(
     Ok(branches)
 }
 
-/// Makes branches of rows in order: full ones, except the last. The list frees its memory while they allocate theirs.
+/// Makes branches of rows in order: full ones, except the last. The list frees its memory while
+/// they allocate theirs. Err: an allocation failed.
 pub(crate) fn branches_of<K: Drop, V: Drop>(
     alloc: Global,
     rows: Vec<Row<K, V>>,
 ) -> Result<Vec<Branch<K, V>>, AllocError>
     requires { AreFilled rows.items }
-    ensures same { IfOk result (λ branches. joined branches.items ≡ joined rows.items) }
+    ensures same { IfOk result (λ branches. concat_rows branches.items ≡ concat_rows rows.items) }
     ensures filled { IfOk result (λ branches. AreFilled branches.items) }
 {
     // From the last one on, so that the rows that are left keep their places.

@@ -2,7 +2,7 @@
 ghost use Rattle.std.specs.Prelude.{◌≡◌, ◌<◌, ◌++◌, length};
 ghost use Rattle.std.specs.Iterator.{at_most};
 ghost use Rattle.std.specs.Map.Iter.{TakesFirst, deref_pair};
-ghost use Rattle.oa_ordered.specs.Rows.{AreFilled, joined};
+ghost use Rattle.oa_ordered.specs.Rows.{AreFilled, concat_rows};
 
 use crate::branch::Branch;
 use crate::row::Row;
@@ -20,26 +20,26 @@ pub struct Iter<'a, K, V> {
 
 impl<'a, K, V> Model for Iter<'a, K, V> {
     ghost use Rattle.std.specs.Prelude.{◌≡◌, ◌++◌, List, length};
-    ghost use Rattle.oa_ordered.specs.Rows.{AreFilled, joined};
+    ghost use Rattle.oa_ordered.specs.Rows.{AreFilled, concat_rows};
 
     ghost Value = { List (K × V) };
 
-    ghost view = { λ i. i.entries.now ++ (joined i.rows.now ++ joined i.branches.now) };
+    ghost view = { λ i. i.entries.now ++ (concat_rows i.rows.now ++ concat_rows i.branches.now) };
 
     ghost invariant = { λ i. AreFilled i.rows.now × AreFilled i.branches.now
-        × (i.left ≡ length (i.entries.now ++ (joined i.rows.now ++ joined i.branches.now))) };
+        × (i.left ≡ length (i.entries.now ++ (concat_rows i.rows.now ++ concat_rows i.branches.now))) };
 }
 
 impl<'a, K, V> Iter<'a, K, V> {
-    /// Makes an iterator over entries and then over those of branches, `count` in all.
+    /// Makes an iterator over entries and then over those of branches, `len` in all.
     pub(crate) fn new(
         entries: &'a [(K, V)],
         branches: &'a [Branch<K, V>],
         len: usize,
     ) -> Iter<'a, K, V>
         requires filled { AreFilled branches.now }
-        requires count { len ≡ length (entries.now ++ joined branches.now) }
-        ensures { result ≡ entries.now ++ joined branches.now }
+        requires count { len ≡ length (entries.now ++ concat_rows branches.now) }
+        ensures { result ≡ entries.now ++ concat_rows branches.now }
     {
         Iter {
             entries,
@@ -55,10 +55,10 @@ fn next_row<'a, K, V>(
     rows: &'a [Row<K, V>],
     branches: &'a [Branch<K, V>],
 ) -> (&'a [(K, V)], &'a [Row<K, V>], &'a [Branch<K, V>])
-    requires some { 0 < length (joined rows.now ++ joined branches.now) }
+    requires some { 0 < length (concat_rows rows.now ++ concat_rows branches.now) }
     requires rows { AreFilled rows.now }
     requires branches { AreFilled branches.now }
-    ensures entries { result.0.now ++ (joined result.1.now ++ joined result.2.now) ≡ joined rows.now ++ joined branches.now }
+    ensures entries { result.0.now ++ (concat_rows result.1.now ++ concat_rows result.2.now) ≡ concat_rows rows.now ++ concat_rows branches.now }
     ensures first { 0 < length result.0.now }
     ensures rows { AreFilled result.1.now }
     ensures branches { AreFilled result.2.now }

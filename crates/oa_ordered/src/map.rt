@@ -19,11 +19,12 @@ const MOST: usize = usize::MAX / 2;
 
 /// A map in the order of its keys.
 ///
-/// Its entries are in rows of up to 64, each an allocation of its own with little unused space, and the rows in
-/// branches of up to 128. A row or a branch that cannot be split, for want of memory, gets longer. A look-up bisects
-/// the branches, then the rows of one, then the entries of one row. An insertion moves the entries after it in its
-/// row, and the rows after it in its branch if the row is split. Up to 64 entries are in one row, which is in the map
-/// itself. An insertion looks after the last entry first.
+/// Its entries are in rows of up to 64, each an allocation of its own with little unused space. The
+/// rows are in branches of up to 128. A row or a branch that cannot be split because an allocation
+/// fails gets longer. A look-up bisects the branches, then the rows of one, then the entries of one
+/// row. An insertion moves the entries after it in its row, and the rows after it in its branch if
+/// the row is split. Up to 64 entries are in one row, which is in the map itself. An insertion
+/// looks after the last entry first.
 #[derive(Drop)]
 pub struct OrderedMap<K: Ord, V> {
     alloc: Global,
@@ -56,8 +57,8 @@ impl<K: Ord, V> OrderedMap<K, V> {
         }
     }
 
-    /// Makes the map of entries whose keys rise. It allocates while the list frees its memory, and leaves no unused
-    /// space. Err: an allocation failed.
+    /// Makes the map of entries whose keys rise. It allocates while the list frees its memory, and
+    /// leaves no unused space. Err: an allocation failed.
     pub fn from_sorted(alloc: Global, entries: Vec<(K, V)>) -> Result<OrderedMap<K, V>, AllocError>
     where
         K: Drop,
@@ -73,7 +74,7 @@ impl<K: Ord, V> OrderedMap<K, V> {
         Ok(OrderedMap { alloc, root, len })
     }
 
-    /// Returns how many entries there are.
+    /// Returns the number of entries.
     pub fn len(&self) -> usize
         ensures len { result ≡ length self.now }
         ensures small { result < 2 ^ 63 }
@@ -82,15 +83,16 @@ impl<K: Ord, V> OrderedMap<K, V> {
         self.len
     }
 
-    /// Returns the value of a key.
+    /// Returns the value of a key; None if it is not in the map.
     pub fn get(&self, key: &K) -> Option<&V>
         ensures { option_copied result ≡ lookup (is_at (K.cmp key.now)) self.now }
     {
         self.get_near(key, 0)
     }
 
-    /// Returns the value of a key. `near` has no effect on the result. The look-up is fast if `near` keys are below
-    /// this one, and keys were inserted in rising order and never removed.
+    /// Returns the value of a key; None if it is not in the map. `near` has no effect on the
+    /// result. The look-up is fast if `near` keys are below this one, and keys were inserted in
+    /// rising order and never removed.
     pub fn get_near(&self, key: &K, near: usize) -> Option<&V>
         ensures { option_copied result ≡ lookup (is_at (K.cmp key.now)) self.now }
     {
@@ -109,7 +111,7 @@ impl<K: Ord, V> OrderedMap<K, V> {
         }
     }
 
-    /// Returns the value of a key, to be changed.
+    /// Returns the value of a key, to be changed; None if it is not in the map.
     pub fn get_mut(&mut self, key: &K) -> Option<&mut V>
         ensures* writes_back { sem 𝓛 (lends_get K.row V.row K.Ord self.entry key.now result) }
         ensures value { option_copied_mut result ≡ lookup (is_at (K.cmp key.now)) self.old }
@@ -117,8 +119,8 @@ impl<K: Ord, V> OrderedMap<K, V> {
         self.get_mut_near(key, 0)
     }
 
-    /// Returns the value of a key, to be changed. `near` has no effect on the result; it makes the look-up fast as in
-    /// `get_near`.
+    /// Returns the value of a key, to be changed; None if it is not in the map. `near` has no
+    /// effect on the result; it makes the look-up fast as in `get_near`.
     pub fn get_mut_near(&mut self, key: &K, near: usize) -> Option<&mut V>
         ensures* writes_back { sem 𝓛 (lends_get K.row V.row K.Ord self.entry key.now result) }
         ensures value { option_copied_mut result ≡ lookup (is_at (K.cmp key.now)) self.old }
@@ -138,8 +140,9 @@ impl<K: Ord, V> OrderedMap<K, V> {
         }
     }
 
-    /// Sets the value of a key, and returns the one before. An equal key that is in the map stays, and the new one is
-    /// dropped. Err: an allocation failed; key and value are returned, and nothing changes.
+    /// Sets the value of a key, and returns the one before; None if the key is new. An equal key
+    /// that is in the map stays, and the new one is dropped. Err: an allocation failed; key and
+    /// value are returned, and nothing changes.
     pub fn insert(&mut self, key: K, value: V) -> Result<Option<V>, AllocFailed<(K, V)>>
     where
         K: Drop,
@@ -162,7 +165,8 @@ impl<K: Ord, V> OrderedMap<K, V> {
         Ok(old)
     }
 
-    /// Returns whether the key is in the map, or can be added within the greatest number of entries.
+    /// Returns whether the key is in the map, or can be added within the greatest number of
+    /// entries.
     fn has_room_for(&self, key: &K) -> bool
         ensures room { IsTrue result → lookup (is_at (K.cmp key.now)) self.now ≡ None → length self.now < 2 ^ 63 - 1 }
         ensures none { result ≡ false → lookup (is_at (K.cmp key.now)) self.now ≡ None }
@@ -174,7 +178,7 @@ impl<K: Ord, V> OrderedMap<K, V> {
         self.get(key).is_some()
     }
 
-    /// Removes a key, and returns its value.
+    /// Removes a key, and returns its value; None if it is not in the map.
     pub fn remove(&mut self, key: &K) -> Option<V>
     where
         K: Drop,

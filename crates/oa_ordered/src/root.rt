@@ -2,7 +2,7 @@
 ghost use Rattle.std.specs.Prelude.{◌≡◌, ◌<◌, ◌≤◌, [], None, IfOk, IfErr, OnOk, OnErr};
 ghost use Rattle.std.specs.Map.{lookup, remove_entry};
 ghost use Rattle.std.specs.BTreeMap.{insert_entry, is_at};
-ghost use Rattle.oa_ordered.specs.Rows.{AreFilled, IsOrdered, joined};
+ghost use Rattle.oa_ordered.specs.Rows.{AreFilled, IsOrdered, concat_rows};
 ghost use Rattle.oa_ordered.specs.Roots.{IsFilled, entries_of};
 
 use crate::branch::Branch;
@@ -12,16 +12,18 @@ use crate::rows::{FULL, HALF, rows_of};
 use std::alloc::{AllocError, AllocFailed, Global};
 use std::mem::replace;
 
-/// The entries of a map: in one row, or in branches of rows. Once they are in branches, they stay there until all are
-/// removed.
+/// The entries of a map: in one row, or in branches of rows. Once they are in branches, they stay
+/// there until all are removed.
 #[derive(Drop)]
 pub(crate) enum Root<K, V> {
+    /// At most 64 entries, unless an allocation has failed.
     One(Row<K, V>),
+    /// Any number of entries.
     Many(Vec<Branch<K, V>>),
 }
 
 impl<K, V> Root<K, V> {
-    /// Makes the root of entries in order, without unused space.
+    /// Makes the root of entries in order, without unused space. Err: an allocation failed.
     pub(crate) fn of_entries(alloc: Global, entries: Vec<(K, V)>) -> Result<Root<K, V>, AllocError>
     where
         K: Drop,
@@ -37,7 +39,8 @@ impl<K, V> Root<K, V> {
         Ok(Root::Many(branches))
     }
 
-    /// Sets the value of a key, and returns the one before.
+    /// Sets the value of a key, and returns the one before; None if the key is new. Err: an
+    /// allocation failed; key and value are returned.
     pub(crate) fn insert(
         &mut self,
         alloc: Global,
@@ -78,8 +81,8 @@ impl<K, V> Root<K, V> {
         }
     }
 
-    /// Splits the one row into a branch of two if it is longer than a full one; if an allocation fails, it stays as
-    /// it is.
+    /// Splits the one row into a branch of two if it is longer than a full one. The first keeps
+    /// `keep` entries. If an allocation fails, the row stays as it is.
     fn split_long_row(&mut self, alloc: Global, keep: usize)
     where
         K: Drop,
@@ -102,7 +105,7 @@ impl<K, V> Root<K, V> {
         *self = Root::Many(branches);
     }
 
-    /// Removes a key, and returns its value.
+    /// Removes a key, and returns its value; None if it is not in the map.
     pub(crate) fn remove(&mut self, key: &K) -> Option<V>
     where
         K: Ord + Drop,

@@ -23,8 +23,8 @@ impl<K, V> Model for Row<K, V> {
     ghost view = { λ r. r.entries.items };
 }
 
-/// Reserves space for one more item. A full vector grows by an eighth of its length, so little is unused, and in a
-/// full row nothing.
+/// Reserves space for one more item. A full vector grows by an eighth of its length, so little is
+/// unused, and in a full row nothing. Err: the allocation failed.
 pub(crate) fn make_room<T>(items: &mut Vec<T>) -> Result<(), AllocError>
     ensures items { items.new.items ≡ items.old.items }
     ensures room { OnOk result (vec_len items.new < vec_capacity items.new) }
@@ -36,7 +36,8 @@ pub(crate) fn make_room<T>(items: &mut Vec<T>) -> Result<(), AllocError>
     items.reserve_exact(len / 8 + 1)
 }
 
-/// Returns the place of the key among entries in order, or the place at which to insert it.
+/// Returns the place of the key among entries in order, counted from 0. Err: the key is not there;
+/// it contains the place at which to insert it.
 pub(crate) fn place_in<K: Ord, V>(entries: &[(K, V)], key: &K) -> Result<usize, usize>
     requires { IsOrdered K.cmp entries.now }
     ensures found { IfOk result (λ at. IsFoundIn K.cmp key.now entries.now at) }
@@ -55,7 +56,8 @@ pub(crate) fn place_in<K: Ord, V>(entries: &[(K, V)], key: &K) -> Result<usize, 
     Err(low)
 }
 
-/// Returns the place of the key among entries in order, or the place at which to insert it. Looks at `near` first.
+/// Returns the place of the key among entries in order, counted from 0. It looks at place `near`
+/// first. Err: the key is not there; it contains the place at which to insert it.
 pub(crate) fn place_in_near<K: Ord, V>(
     entries: &[(K, V)],
     key: &K,
@@ -73,8 +75,8 @@ pub(crate) fn place_in_near<K: Ord, V>(
     place_in(entries, key)
 }
 
-/// Returns the place of the key among entries in order, or the place at which to insert it. Looks after the last one
-/// first.
+/// Returns the place of the key among entries in order, counted from 0. It looks after the last one
+/// first. Err: the key is not there; it contains the place at which to insert it.
 pub(crate) fn place_to_insert<K: Ord, V>(entries: &[(K, V)], key: &K) -> Result<usize, usize>
     requires { IsOrdered K.cmp entries.now }
     ensures found { IfOk result (λ at. IsFoundIn K.cmp key.now entries.now at) }
@@ -101,7 +103,7 @@ impl<K, V> Row<K, V> {
         }
     }
 
-    /// Makes a row without entries, with space for `many` if the allocation succeeds.
+    /// Makes a row without entries, with space for `many` entries if the allocation succeeds.
     pub(crate) fn with_room(alloc: Global, many: usize) -> Row<K, V>
         ensures { result ≡ [] }
     {
@@ -120,12 +122,14 @@ impl<K, V> Row<K, V> {
         Row { entries }
     }
 
+    /// Returns the number of entries.
     pub(crate) fn len(&self) -> usize
         ensures { result ≡ length self.now }
     {
         self.entries.len()
     }
 
+    /// Returns the entries in the order of their keys.
     pub(crate) fn as_slice(&self) -> &[(K, V)]
         ensures { result.now ≡ self.now }
     {
@@ -144,7 +148,7 @@ impl<K, V> Row<K, V> {
         }
     }
 
-    /// Returns the value at a place, to be changed.
+    /// Returns the value at place `at`, counted from 0, to be changed.
     pub(crate) fn value_mut(&mut self, at: usize) -> &mut V
         requires { at < length self.old }
         ensures* writes_back { sem 𝓛 (lends_value K.row V.row self.entry at result) }
@@ -153,7 +157,8 @@ impl<K, V> Row<K, V> {
         &mut self.entries[at].1
     }
 
-    /// Inserts an entry at a place, before those from there on.
+    /// Inserts an entry at place `at`, before those from there on. Err: the allocation failed; the
+    /// entry is returned.
     pub(crate) fn insert(&mut self, at: usize, entry: (K, V)) -> Result<(), AllocFailed<(K, V)>>
         requires { at ≤ length self.old }
         ensures ok { OnOk result (self.new ≡ insert self.old at entry) }
@@ -166,7 +171,7 @@ impl<K, V> Row<K, V> {
         self.entries.insert(at, entry)
     }
 
-    /// Removes the entry at a place.
+    /// Removes the entry at place `at`, counted from 0, and returns it.
     pub(crate) fn remove(&mut self, at: usize) -> (K, V)
         requires { at < length self.old }
         ensures entry { result ≡ slice_index_or self.old at result }
@@ -179,7 +184,8 @@ impl<K, V> Row<K, V> {
         entry
     }
 
-    /// Keeps the entries before a place, and returns those from there on as a row of their own.
+    /// Keeps the entries before place `at`, and returns those from there on as a row of their own.
+    /// Err: the allocation failed, and all entries stay.
     pub(crate) fn split_off(&mut self, at: usize) -> Result<Row<K, V>, AllocError>
         requires { at ≤ length self.old }
         ensures ok { IfOk result (λ rest. rest ≡ drop at self.old) }

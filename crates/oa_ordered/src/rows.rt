@@ -1,31 +1,34 @@
 //! Rows, whose entries together are those of a map.
 ghost use Rattle.std.specs.Prelude.{◌≡◌, ◌<◌, ◌≤◌, ◌++◌, ◌∷◌, [], take, drop, suc, length, slice_index_or, false, IsTrue, IfOk, IfErr, OnOk, OnErr};
 ghost use Rattle.std.specs.List.{remove};
-ghost use Rattle.oa_ordered.specs.Rows.{AreFilled, AreOrdered, IsFound, IsFoundIn, IsGap, IsGapIn, IsOrdered, IsRowFor, after, before, from, joined};
+ghost use Rattle.oa_ordered.specs.Rows.{AreFilled, AreOrdered, IsFound, IsFoundIn, IsGap, IsGapIn, IsOrdered, IsRowFor, concat_rows, entries_after, entries_before, from};
 
 use crate::row::{Row, make_room, place_in, place_to_insert};
 use std::alloc::{AllocError, AllocFailed, Global};
 use std::cmp::Ordering;
 
-/// How many entries a row has before it is split.
+/// The number of entries of a full row. A longer one is split.
 pub(crate) const FULL: usize = 64;
 
-/// How many entries stay in a full row that is split.
+/// The number of entries that stay in a full row that is split.
 pub(crate) const HALF: usize = FULL / 2;
 
-/// After this many rows, a new one is allocated in full length at once. If keys rise, such rows get full, so at most
-/// an eighth is unused. A row that grew by eighths, between the allocations of its values, would leave a hole at each
-/// step.
+/// After this many rows, a new one is allocated in full length at once. If keys rise, such rows get
+/// full, so at most an eighth is unused. A row that grew by eighths, between the allocations of its
+/// values, would leave a hole at each step.
 const MANY: usize = 8;
 
 /// A place in rows: the row, and the place in it.
 #[derive(Clone, Copy)]
 pub(crate) struct Place {
+    /// The number of the row, counted from 0.
     pub(crate) row: usize,
+    /// The place in the row, counted from 0.
     pub(crate) at: usize,
 }
 
-/// Returns the row in which the key is or belongs: the last that begins at or before it, or else the first.
+/// Returns the number of the row in which the key is or belongs: the last that begins at or before
+/// it, or otherwise the first.
 fn row_for<K: Ord, V>(rows: &[Row<K, V>], key: &K) -> usize
     requires { AreOrdered K.cmp rows.now }
     ensures { IsRowFor K.cmp key.now rows.now result }
@@ -43,7 +46,7 @@ fn row_for<K: Ord, V>(rows: &[Row<K, V>], key: &K) -> usize
     low
 }
 
-/// Returns the row in which the key is or belongs. Looks at the last one first.
+/// Returns the number of the row in which the key is or belongs. It looks at the last one first.
 fn row_to_insert<K: Ord, V>(rows: &[Row<K, V>], key: &K) -> usize
     requires { AreOrdered K.cmp rows.now }
     ensures { IsRowFor K.cmp key.now rows.now result }
@@ -57,15 +60,18 @@ fn row_to_insert<K: Ord, V>(rows: &[Row<K, V>], key: &K) -> usize
     row_for(rows, key)
 }
 
-/// Where a search begins: by bisection, or after the last entry, where new keys often belong.
+/// The beginning of a search: by bisection, or after the last entry, to which new keys often
+/// belong.
 #[derive(Clone, Copy)]
 pub(crate) enum Search {
+    /// By bisection.
     Halves,
+    /// After the last entry, and then by bisection.
     Behind,
 }
 
 impl Search {
-    /// Returns the row in which the key is or belongs.
+    /// Returns the number of the row in which the key is or belongs.
     fn row<K: Ord, V>(self, rows: &[Row<K, V>], key: &K) -> usize
         requires { AreOrdered K.cmp rows.now }
         ensures { IsRowFor K.cmp key.now rows.now result }
@@ -76,7 +82,8 @@ impl Search {
         }
     }
 
-    /// Returns the place of the key among entries in order, or the place at which to insert it.
+    /// Returns the place of the key among entries in order. Err: the key is not there; it contains
+    /// the place at which to insert it.
     fn place<K: Ord, V>(self, entries: &[(K, V)], key: &K) -> Result<usize, usize>
         requires { IsOrdered K.cmp entries.now }
         ensures found { IfOk result (λ at. IsFoundIn K.cmp key.now entries.now at) }
@@ -89,7 +96,8 @@ impl Search {
     }
 }
 
-/// Returns the place of the key, or the place at which to insert it.
+/// Returns the place of the key. Err: the key is not there; it contains the place at which to
+/// insert it.
 pub(crate) fn place_of<K: Ord, V>(
     rows: &[Row<K, V>],
     key: &K,
@@ -109,8 +117,8 @@ pub(crate) fn place_of<K: Ord, V>(
     }
 }
 
-/// Returns the place of the key, or the place at which to insert it. Looks first at the entry that has `near` entries
-/// before it if all rows are full.
+/// Returns the place of the key. It looks first at the entry that has `near` entries before it if
+/// all rows are full. Err: the key is not there; it contains the place at which to insert it.
 pub(crate) fn place_near<K: Ord, V>(
     rows: &[Row<K, V>],
     key: &K,
@@ -133,15 +141,15 @@ pub(crate) fn place_near<K: Ord, V>(
     place_of(rows, key, Search::Halves)
 }
 
-/// Appends a row with one entry.
+/// Appends a row with one entry. Err: an allocation failed; the entry is returned.
 fn begin_row<K: Drop, V: Drop>(
     alloc: Global,
     rows: &mut Vec<Row<K, V>>,
     entry: (K, V),
 ) -> Result<(), AllocFailed<(K, V)>>
     requires { AreFilled rows.old.items }
-    ensures ok { OnOk result (joined rows.new.items ≡ joined rows.old.items ++ entry ∷ []) }
-    ensures err { OnErr result (joined rows.new.items ≡ joined rows.old.items) }
+    ensures ok { OnOk result (concat_rows rows.new.items ≡ concat_rows rows.old.items ++ entry ∷ []) }
+    ensures err { OnErr result (concat_rows rows.new.items ≡ concat_rows rows.old.items) }
     ensures filled { AreFilled rows.new.items }
     ensures handed_back { IfErr result (λ failed. failed.value ≡ entry) }
 {
@@ -154,7 +162,7 @@ fn begin_row<K: Drop, V: Drop>(
     Ok(())
 }
 
-/// Splits a full row in two.
+/// Splits a full row in two. Err: an allocation failed, and the row stays as it is.
 fn split<K: Drop, V: Drop>(rows: &mut Vec<Row<K, V>>, row: usize) -> Result<(), AllocError>
     requires row { row < length rows.old.items }
     requires full { FULL ≤ length (slice_index_or rows.old.items row []) }
@@ -169,7 +177,7 @@ fn split<K: Drop, V: Drop>(rows: &mut Vec<Row<K, V>>, row: usize) -> Result<(), 
     Ok(())
 }
 
-/// Inserts an entry at a place of a row.
+/// Inserts an entry at a place of a row. Err: the allocation failed; the entry is returned.
 fn insert_free<K: Drop, V: Drop>(
     rows: &mut Vec<Row<K, V>>,
     place: Place,
@@ -178,7 +186,7 @@ fn insert_free<K: Drop, V: Drop>(
     requires row { place.row < length rows.old.items }
     requires place { place.at ≤ length (slice_index_or rows.old.items place.row []) }
     requires filled { AreFilled rows.old.items }
-    ensures ok { OnOk result (joined rows.new.items ≡ before rows.old.items place.row place.at ++ entry ∷ from rows.old.items place.row place.at) }
+    ensures ok { OnOk result (concat_rows rows.new.items ≡ entries_before rows.old.items place.row place.at ++ entry ∷ from rows.old.items place.row place.at) }
     ensures err { OnErr result (rows.new.items ≡ rows.old.items) }
     ensures count { length rows.new.items ≡ length rows.old.items }
     ensures filled { AreFilled rows.new.items }
@@ -191,7 +199,7 @@ fn insert_free<K: Drop, V: Drop>(
 fn split_long<K: Drop, V: Drop>(rows: &mut Vec<Row<K, V>>, row: usize)
     requires row { row < length rows.old.items }
     requires filled { AreFilled rows.old.items }
-    ensures same { joined rows.new.items ≡ joined rows.old.items }
+    ensures same { concat_rows rows.new.items ≡ concat_rows rows.old.items }
     ensures filled { AreFilled rows.new.items }
 {
     if rows[row].len() <= FULL {
@@ -215,8 +223,9 @@ fn is_past_full<K, V>(rows: &[Row<K, V>], place: Place) -> bool
     place.row + 1 == rows.len() && place.at >= FULL && place.at == rows[place.row].len()
 }
 
-/// Inserts an entry at a place, before those from there on. After all others it begins a row if the last one is full,
-/// so that rising keys fill the rows.
+/// Inserts an entry at a place, before those from there on. After all others it begins a row if the
+/// last one is full, so that rising keys fill the rows. Err: an allocation failed; the entry is
+/// returned.
 pub(crate) fn insert_at<K: Drop, V: Drop>(
     alloc: Global,
     rows: &mut Vec<Row<K, V>>,
@@ -226,8 +235,8 @@ pub(crate) fn insert_at<K: Drop, V: Drop>(
     requires row { place.row ≤ length rows.old.items }
     requires place { place.at ≤ length (slice_index_or rows.old.items place.row []) }
     requires filled { AreFilled rows.old.items }
-    ensures ok { OnOk result (joined rows.new.items ≡ before rows.old.items place.row place.at ++ entry ∷ from rows.old.items place.row place.at) }
-    ensures err { OnErr result (joined rows.new.items ≡ joined rows.old.items) }
+    ensures ok { OnOk result (concat_rows rows.new.items ≡ entries_before rows.old.items place.row place.at ++ entry ∷ from rows.old.items place.row place.at) }
+    ensures err { OnErr result (concat_rows rows.new.items ≡ concat_rows rows.old.items) }
     ensures filled { AreFilled rows.new.items }
     ensures handed_back { IfErr result (λ failed. failed.value ≡ entry) }
 {
@@ -240,12 +249,13 @@ pub(crate) fn insert_at<K: Drop, V: Drop>(
     Ok(())
 }
 
-/// Makes rows of entries in order: full ones, except the last. The list frees its memory while they allocate theirs.
+/// Makes rows of entries in order: full ones, except the last. The list frees its memory while they
+/// allocate theirs. Err: an allocation failed.
 pub(crate) fn rows_of<K: Drop, V: Drop>(
     alloc: Global,
     entries: Vec<(K, V)>,
 ) -> Result<Vec<Row<K, V>>, AllocError>
-    ensures same { IfOk result (λ rows. joined rows.items ≡ entries.items) }
+    ensures same { IfOk result (λ rows. concat_rows rows.items ≡ entries.items) }
     ensures filled { IfOk result (λ rows. AreFilled rows.items) }
 {
     // From the last one on, so that the entries that are left keep their places.
@@ -273,13 +283,14 @@ fn drop_row<K: Drop, V: Drop>(rows: &mut Vec<Row<K, V>>, row: usize)
     }
 }
 
-/// Removes the entry at a place, and its row if that was the last one in it.
+/// Removes the entry at a place and returns it. Its row is removed, too, if that was the last one
+/// in it.
 pub(crate) fn remove_at<K: Drop, V: Drop>(rows: &mut Vec<Row<K, V>>, place: Place) -> (K, V)
     requires row { place.row < length rows.old.items }
     requires place { place.at < length (slice_index_or rows.old.items place.row []) }
     requires filled { AreFilled rows.old.items }
-    ensures entry { joined rows.old.items ≡ before rows.old.items place.row place.at ++ result ∷ after rows.old.items place.row place.at }
-    ensures rest { joined rows.new.items ≡ before rows.old.items place.row place.at ++ after rows.old.items place.row place.at }
+    ensures entry { concat_rows rows.old.items ≡ entries_before rows.old.items place.row place.at ++ result ∷ entries_after rows.old.items place.row place.at }
+    ensures rest { concat_rows rows.new.items ≡ entries_before rows.old.items place.row place.at ++ entries_after rows.old.items place.row place.at }
     ensures filled { AreFilled rows.new.items }
 {
     let Place { row, at } = place;

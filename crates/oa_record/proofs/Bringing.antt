@@ -1,10 +1,11 @@
 -- Lists of no member and of one, as they are read; and the request of a call that brings no more than a new value.
 use Rattle.std.proofs.Common.{◌≡◌, ℕ, ◌≤◌, List, [], ◌∷◌, length, Option, Some, None, IfSome, refl}
-use Rattle.oa_model.specs.Limits.{max_request_bytes}
-use Rattle.oa_ndr.specs.Reading.{Cursor, Reading, bind, give, many, whole}
+use Rattle.oa_model.specs.promise.Limits.{max_request_bytes}
+use Rattle.oa_ndr.specs.promise.Reading.{Cursor, Decoder, bind, give, many}
+use Rattle.oa_ndr.specs.Reading.{whole}
 use Rattle.oa_variant.specs.declared.variant.Variant.{Variant}
-use Rattle.oa_record.specs.Asks.{Asks}
-use Rattle.oa_record.specs.Layouts.{Layout}
+use Rattle.oa_record.specs.promise.Asks.{Asks}
+use Rattle.oa_record.specs.promise.Layouts.{Layout}
 use Rattle.oa_record.specs.Reading.{layout_at}
 use Rattle.oa_record.specs.ValueCalls.{SpellsNew, bringing, parts_bringing}
 use Rattle.oa_record.specs.declared.request.CallHead.{CallHead}
@@ -13,11 +14,11 @@ use Rattle.oa_record.specs.declared.request.Request.TheVariants.{ByCall}
 use Rattle.oa_record.specs.declared.request.ValueCall.{ValueCall}
 use Rattle.oa_record.proofs.Requests.{asks}
 
-pub many_none : {A : Type 0} (read : Reading A) (s : Cursor) → many read 0 s ≡ Some ([], s)
+pub many_none : {A : Type 0} (read : Decoder A) (s : Cursor) → many read 0 s ≡ Some ([], s)
 unfolding many give
 many_none read s = refl
 
-pub many_one : {A : Type 0} (read : Reading A) (s t : Cursor) (x : A) → read s ≡ Some (x, t) → many read 1 s ≡ Some (x ∷ [], t)
+pub many_one : {A : Type 0} (read : Decoder A) (s t : Cursor) (x : A) → read s ≡ Some (x, t) → many read 1 s ≡ Some (x ∷ [], t)
 unfolding many bind give
 many_one read s t x is = rw is refl
 

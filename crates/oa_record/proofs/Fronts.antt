@@ -5,16 +5,17 @@ use Rattle.std.proofs.lemmas.Bool.Decides.{nat_tests}
 use Rattle.std.proofs.lemmas.List.{drop-drop, length-drop}
 use Rattle.std.specs.Int.{w32, cast_signed}
 use Rattle.byteorder.specs.Endian.{little_number}
-use Rattle.oa_model.specs.Guids.{wire_order}
-use Rattle.oa_model.specs.Limits.{max_arguments}
-use Rattle.oa_ndr.specs.Forms.{padding}
-use Rattle.oa_ndr.specs.Reading.{Cursor, at, moved, and_then, steps, bytes_at, slot_at, unit_at, whole}
-use Rattle.oa_record.specs.CallParts.{CallParts}
-use Rattle.oa_record.specs.Layouts.{Layout}
+use Rattle.oa_model.specs.promise.Guids.{wire_order}
+use Rattle.oa_model.specs.promise.Limits.{max_arguments}
+use Rattle.oa_ndr.specs.promise.Forms.{padding}
+use Rattle.oa_ndr.specs.promise.Reading.{Cursor, at, moved, and_then, bytes_at}
+use Rattle.oa_ndr.specs.Reading.{steps, slot_at, unit_at, whole}
+use Rattle.oa_record.specs.promise.CallParts.{CallParts}
+use Rattle.oa_record.specs.promise.Layouts.{Layout}
 use Rattle.oa_record.specs.declared.opcode.ByCall.TheVariants as by_call
-use Rattle.oa_record.specs.Reading.{guid_at, dispid_at, call_head_at, call_at, fields_at, lists_at, named_at, layout_at}
+use Rattle.oa_record.specs.Reading.{guid_at, dispid_at, call_head_at, call_at, fields_at, lists_at, layout_by_opcode, layout_at}
 use Rattle.oa_record.specs.declared.request.CallHead.{CallHead}
-use Rattle.oa_record.specs.ValueCalls.{guid_in, head_in, number_in, lists_behind}
+use Rattle.oa_record.specs.ValueCalls.{guid_in, head_in, body_number, lists_behind}
 
 -- the reader at a place of a body
 abbrev place_of : ℕ → List ℕ → Cursor
@@ -28,15 +29,17 @@ module _ (body : List ℕ) where
   unfolding slot_at
   slot_there n p aligned h = by (padding n p) (nat_lt (length (drop p body)) (padding n p + n)) aligned (there n p (padding n p) body aligned h)
     where
-      by : (g : ℕ) (b : Bool) → g ≡ 0 → b ≡ false → if◌then◌else◌ {A = Option (List ℕ × Cursor)} b None (Some (take n (drop g (drop p body)), moved (g + n) (place_of p body))) ≡ Some (take n (drop p body), place_of (p + n) body)
+      by : (g : ℕ) (b : Bool) → g ≡ 0 → b ≡ false → if◌then◌else◌ {A = Option (List ℕ × Cursor)} b None
+          (Some (take n (drop g (drop p body)), moved (g + n) (place_of p body))) ≡ Some (take n (drop p body), place_of (p + n) body)
       by g true aligned isnt = absurd (true≢false isnt)
       by g false aligned isnt = let n_is : g + n ≡ n = omega (arith, aligned) in rw (n_is, aligned, drop-drop n p body) refl
 
-  unit_there : (n p : ℕ) → padding n p ≡ 0 → p + n ≤ length body → unit_at n (place_of p body) ≡ Some (number_in n p body, place_of (p + n) body)
+  unit_there : (n p : ℕ) → padding n p ≡ 0 → p + n ≤ length body → unit_at n (place_of p body) ≡ Some (body_number n p body, place_of (p + n) body)
   unfolding steps unit_at
   unit_there n p aligned h = ap (λ (o : Option (List ℕ × Cursor)). and_then o (λ slot s. Some (little_number n slot, s))) (slot_there n p aligned h)
 
-  dispid_there : (p : ℕ) → padding 4 p ≡ 0 → p + 4 ≤ length body → dispid_at (place_of p body) ≡ Some (cast_signed w32 (number_in 4 p body), place_of (p + 4) body)
+  dispid_there : (p : ℕ) → padding 4 p ≡ 0 → p + 4 ≤ length body
+      → dispid_at (place_of p body) ≡ Some (cast_signed w32 (body_number 4 p body), place_of (p + 4) body)
   unfolding steps dispid_at
   dispid_there p aligned h = ap (λ (o : Option (ℕ × Cursor)). and_then o (λ n s. Some (cast_signed w32 n, s))) (unit_there 4 p aligned h)
 
@@ -44,7 +47,8 @@ module _ (body : List ℕ) where
   unfolding bytes_at
   bytes_there n p h = by (nat_lt (length (drop p body)) n) (let e = length-drop p body in grind (arith, nat_tests, e, h))
     where
-      by : (b : Bool) → b ≡ false → if◌then◌else◌ {A = Option (List ℕ × Cursor)} b None (Some (take n (drop p body), moved n (place_of p body))) ≡ Some (take n (drop p body), place_of (p + n) body)
+      by : (b : Bool) → b ≡ false → if◌then◌else◌ {A = Option (List ℕ × Cursor)} b None (Some (take n (drop p body), moved n (place_of p body))) ≡ Some
+          (take n (drop p body), place_of (p + n) body)
       by true isnt = absurd (true≢false isnt)
       by false isnt = rw (drop-drop n p body) refl
 
@@ -71,8 +75,9 @@ module _ (body : List ℕ) where
     unfolding steps call_at lists_behind
     call_there = rw (head_there, unit_there 4 56 refl (omega (arith, h)), unit_there 4 60 refl (omega (arith, h))) refl
 
-    laid : number_in 2 4 body ≡ 4 → layout_at (place_of 0 body) ≡ and_then (lists_behind body (place_of 64 body)) (λ call s. Some (Layout.CallBody by_call.Invoke call, s))
-    unfolding steps layout_at named_at fields_at
+    laid : body_number 2 4 body ≡ 4 → layout_at (place_of 0 body) ≡ and_then (lists_behind body (place_of 64 body))
+        (λ call s. Some (Layout.CallBody by_call.Invoke call, s))
+    unfolding steps layout_at layout_by_opcode fields_at
     laid invoke =
         rw (unit_there 4 0 refl (omega (arith, h)), unit_there 2 4 refl (omega (arith, h)), unit_there 2 6 refl (omega (arith, h)), invoke, call_there)
         refl
@@ -81,8 +86,9 @@ same_inside : {X : Type 0} (x y : X) → Some x ≡ Some y → x ≡ y
 same_inside x y e = cc
 
 -- an INVOKE whose lists are read to its end
-pub call_laid : (body front : List ℕ) (r s t : Cursor) (call : CallParts) → 64 ≤ length body → number_in 2 4 body ≡ 4 → r ≡ at 0 body
-    → bytes_at 64 r ≡ Some (front, s) → lists_behind body s ≡ Some (call, t) → (length t.rest == 0) ≡ true → whole layout_at body ≡ Some (Layout.CallBody by_call.Invoke call)
+pub call_laid : (body front : List ℕ) (r s t : Cursor) (call : CallParts) → 64 ≤ length body → body_number 2 4 body ≡ 4 → r ≡ at 0 body
+    → bytes_at 64 r ≡ Some (front, s) → lists_behind body s ≡ Some (call, t) → (length t.rest == 0) ≡ true
+    → whole layout_at body ≡ Some (Layout.CallBody by_call.Invoke call)
 call_laid body front r s t call h invoke start moves read none =
     let first : Some (front, s) ≡ Some (take 64 body, place_of 64 body) = sym moves ∙ ap (bytes_at 64) start ∙ bytes_there body 64 0 h in
     let behind : s ≡ place_of 64 body = ap (λ (p : List ℕ × Cursor). p.1) (same_inside (front, s) (take 64 body, place_of 64 body) first) in
@@ -90,7 +96,7 @@ call_laid body front r s t call h invoke start moves read none =
 
 -- The lists after the counts.
 pub lists_are : (body : List ℕ) (head : CallHead) (count named_count : ℕ) (s t : Cursor) (call : CallParts) → head ≡ head_in body
-    → count ≡ number_in 4 56 body → named_count ≡ number_in 4 60 body → (nat_le count max_arguments && nat_le named_count max_arguments) ≡ true
+    → count ≡ body_number 4 56 body → named_count ≡ body_number 4 60 body → (nat_le count max_arguments && nat_le named_count max_arguments) ≡ true
     → lists_at head count named_count s ≡ Some (call, t) → lists_behind body s ≡ Some (call, t)
 unfolding steps lists_behind
 lists_are body head count named_count s t call heads counts names few read = rw (← heads, ← counts, ← names, few) read

@@ -1,12 +1,14 @@
 -- The number of bytes that are there before an allocation: those of a head and its counts.
 use Rattle.std.proofs.Common.{◌≡◌, ℕ, ℤ, ◌+◌, ◌≤◌, List, length, Some, ap, arith}
 use Rattle.std.proofs.lemmas.List.{length-append}
-use Rattle.oa_ndr.specs.Forms.{◌▸◌, ignored, unit}
-use Rattle.oa_ndr.specs.Reading.{Cursor, at, unit_at}
+use Rattle.oa_ndr.specs.promise.Forms.{◌▸◌, ignored, unit}
+use Rattle.oa_ndr.specs.promise.Reading.{Cursor, at}
+use Rattle.oa_ndr.specs.Reading.{unit_at}
 use Rattle.oa_ndr.proofs.Laws.{unit_reads}
-use Rattle.oa_record.specs.CallParts.{CallParts}
-use Rattle.oa_record.specs.Layouts.{Layout, opcode_of, guid, dispid, call_head, call_parts, get_ids, fields, layout}
-use Rattle.oa_record.specs.Opcodes.{before_memory}
+use Rattle.oa_record.specs.promise.CallParts.{CallParts}
+use Rattle.oa_record.specs.promise.Layouts.{Layout, opcode_of, guid, dispid, call_head, call_parts, get_ids, fields}
+use Rattle.oa_record.specs.promise.Layouts.{layout}
+use Rattle.oa_record.specs.promise.Opcodes.{before_memory}
 use Rattle.oa_record.specs.Reading.{guid_at, call_head_at, FaultIsBehind}
 use Rattle.oa_record.specs.declared.request.CallHead.{CallHead}
 use Rattle.oa_record.specs.declared.request.GetIds.{GetIds}
@@ -67,7 +69,8 @@ fields_have (Layout.QueryBody query) = any_has _
 pub layout_length : (parts : Layout) (body : List ℕ) → layout parts 0 body → 8 + before_memory (opcode_of parts) ≤ length body
 layout_length parts body form =
     let n = before_memory (opcode_of parts) in
-    let long : 4 + (2 + (2 + n)) ≤ length body = then_has 4 (2 + (2 + n)) (ignored_has 4) (then_has 2 (2 + n) (unit_has 2 _) (then_has 2 n (ignored_has 2) (fields_have parts))) 0 body form in
+    let long : 4 + (2 + (2 + n)) ≤ length body =
+    then_has 4 (2 + (2 + n)) (ignored_has 4) (then_has 2 (2 + n) (unit_has 2 _) (then_has 2 n (ignored_has 2) (fields_have parts))) 0 body form in
     omega (arith, long)
 
 -- Bytes that have been read are there.
@@ -87,7 +90,8 @@ head_there s t h e =
     omega (arith, ap length one.parts, length-append one.text t.rest, head_has h s.position one.text one.form)
 
 -- the 8 bytes before the fields
-pub start_there : (body : List ℕ) (x n y : ℕ) (s t u : Cursor) → unit_at 4 (at 0 body) ≡ Some (x, s) → unit_at 2 s ≡ Some (n, t) → unit_at 2 t ≡ Some (y, u) → 8 + length u.rest ≤ length body
+pub start_there : (body : List ℕ) (x n y : ℕ) (s t u : Cursor) → unit_at 4 (at 0 body) ≡ Some (x, s) → unit_at 2 s ≡ Some (n, t) → unit_at 2 t ≡ Some (y, u)
+    → 8 + length u.rest ≤ length body
 start_there body x n y s t u e f g =
     let a : 4 + length s.rest ≤ length body = unit_there 4 (at 0 body) s x e in
     omega (arith, a, unit_there 2 s t n f, unit_there 2 t u y g)

@@ -3,29 +3,30 @@ use Rattle.std.proofs.Common.{◌≡◌, ℕ, ℤ, ◌+◌, ◌≤◌, Bool, tru
 use Rattle.std.proofs.Common.{sym, ap, subst, ◌∙◌, arith}
 use Rattle.std.proofs.lemmas.Bool.{leb-true, leb-false}
 use Rattle.std.specs.Int.{w32, cast_signed}
-use Rattle.oa_model.specs.Limits.{max_arguments, max_dimensions, max_names}
-use Rattle.oa_model.specs.Guids.{wire_order}
+use Rattle.oa_model.specs.promise.Limits.{max_arguments, max_dimensions, max_names}
+use Rattle.oa_model.specs.promise.Guids.{wire_order}
 use Rattle.oa_model.specs.declared.bound.Bound.{Bound}
-use Rattle.oa_ndr.specs.Forms.{unit, exactly, each, nothing}
-use Rattle.oa_ndr.specs.Reading.{Cursor, at}
+use Rattle.oa_ndr.specs.promise.Forms.{unit, exactly, each, nothing}
+use Rattle.oa_ndr.specs.promise.Reading.{Cursor, at}
 use Rattle.oa_ndr.proofs.Laws.{Reads, Takes, Always, all_always, fail_reads, choose_reads, give_reads, none_reads, unit_reads, bytes_reads}
 use Rattle.oa_ndr.proofs.Laws.{align_reads, align_then, bind_reads, with_reads, told_reads, made_from, made_reads, made_takes, made_again}
 use Rattle.oa_ndr.proofs.Laws.{nothing_takes, nothing_again, many_reads, ignored_then, given_then, same_values}
-use Rattle.oa_wire_array.specs.Arrays.{bound}
+use Rattle.oa_wire_array.specs.promise.Arrays.{bound}
 use Rattle.oa_wire_array.specs.ArrayReading.{bound_at}
 use Rattle.oa_wire_array.proofs.ScalarLaws.{signed_reads}
-use Rattle.oa_record.specs.CallParts.{CallParts, ElementParts, PutParts, RedimParts}
-use Rattle.oa_record.specs.Opcodes.{opcode_number, opcode_named}
+use Rattle.oa_record.specs.promise.CallParts.{CallParts, ElementParts, PutParts, RedimParts}
+use Rattle.oa_record.specs.promise.Opcodes.{opcode_number, opcode_named}
 use Rattle.oa_record.proofs.OpcodeLaws.{named_back, number_from, same_opcode}
 use Rattle.oa_record.specs.declared.opcode.Opcode.{Opcode}
 use Rattle.oa_record.specs.declared.opcode.Opcode.TheVariants as opcodes
 use Rattle.oa_record.specs.declared.request.CallHead.{CallHead}
 use Rattle.oa_record.specs.declared.request.GetIds.{GetIds}
-use Rattle.oa_record.specs.Layouts.{Layout, opcode_of, guid, dispid, field, call_head, call_parts, indices, element_parts, put_parts}
-use Rattle.oa_record.specs.Layouts.{redim_parts, string, get_ids, number, fields, layout}
+use Rattle.oa_record.specs.promise.Layouts.{Layout, opcode_of, guid, dispid, field, call_head, call_parts, index_list}
+use Rattle.oa_record.specs.promise.Layouts.{element_parts, put_parts, redim_parts, string, get_ids, number, fields}
+use Rattle.oa_record.specs.promise.Layouts.{layout}
 use Rattle.oa_record.specs.Reading.{guid_at, dispid_at, field_at, head_of, call_head_at, parts_of, lists_at, call_at, index_list_at}
 use Rattle.oa_record.specs.Reading.{indices_at, parts_of_element, element_at, put_of, put_at, redim_of, redim_at, string_at, ids_of, names_at}
-use Rattle.oa_record.specs.Reading.{get_ids_at, number_at, fields_at, named_at, layout_at}
+use Rattle.oa_record.specs.Reading.{get_ids_at, number_at, fields_at, layout_by_opcode, layout_at}
 
 pub guid_reads : Reads Always guid guid_at
 unfolding guid_at
@@ -42,7 +43,8 @@ field_reads =
     ignored_then 4 (bind_reads exactly (λ bytes. bytes) (bytes_reads n) (λ bytes h. h.1) (λ bytes is_n.
     made_reads (λ _. bytes) (align_reads 8) (λ _ _. ((tt, is_n), refl)) (λ c p text h form. (tt, tt, sym h.1)))))
 
-head_is : (h : CallHead) (object : ℕ) (dispid : ℤ) (interface riid : List ℕ) (lcid flags : ℕ) → h.object ≡ object → h.dispid ≡ dispid → h.interface ≡ interface → h.riid ≡ riid → h.lcid ≡ lcid → h.flags ≡ flags
+head_is : (h : CallHead) (object : ℕ) (dispid : ℤ) (interface riid : List ℕ) (lcid flags : ℕ) → h.object ≡ object → h.dispid ≡ dispid → h.interface ≡ interface
+    → h.riid ≡ riid → h.lcid ≡ lcid → h.flags ≡ flags
     → head_of object dispid interface riid lcid flags ≡ h
 head_is h object dispid interface riid lcid flags a b c d e f = rw (← a, ← b, ← c, ← d, ← e, ← f) refl
 
@@ -75,15 +77,18 @@ call_reads =
     (λ c p text q form. (c.fields, (q.0.0.1, all_always c.fields), call_is c head named q.0.0.0.1 q.1))))))
     (λ many. fail_reads (λ c p text q form. too_many count named_count c many q.0.1 q.1 form.first.fact)))))
   where
-    few_lists : (count named_count : ℕ) (c : CallParts) → (leb count max_arguments && leb named_count max_arguments) ≡ true → length c.fields ≡ count → length c.named ≡ named_count → (length c.fields ≤ max_arguments) × (length c.named ≤ max_arguments)
+    few_lists : (count named_count : ℕ) (c : CallParts) → (leb count max_arguments && leb named_count max_arguments) ≡ true → length c.fields ≡ count
+        → length c.named ≡ named_count → (length c.fields ≤ max_arguments) × (length c.named ≤ max_arguments)
     few_lists count named_count c few a b = parts (leb count max_arguments) (leb named_count max_arguments) few refl refl
       where
-        parts : (p q : Bool) → (p && q) ≡ true → leb count max_arguments ≡ p → leb named_count max_arguments ≡ q → (length c.fields ≤ max_arguments) × (length c.named ≤ max_arguments)
+        parts : (p q : Bool) → (p && q) ≡ true → leb count max_arguments ≡ p → leb named_count max_arguments ≡ q → (length c.fields ≤ max_arguments)
+            × (length c.named ≤ max_arguments)
         parts true true e x y = (omega (arith, leb-true _ _ x, a), omega (arith, leb-true _ _ y, b))
         parts true false e x y = absurd cc
         parts false q e x y = absurd cc
 
-    too_many : (count named_count : ℕ) (c : CallParts) → (leb count max_arguments && leb named_count max_arguments) ≡ false → length c.fields ≡ count → length c.named ≡ named_count → (length c.fields ≤ max_arguments) × (length c.named ≤ max_arguments) → ⊥
+    too_many : (count named_count : ℕ) (c : CallParts) → (leb count max_arguments && leb named_count max_arguments) ≡ false → length c.fields ≡ count
+        → length c.named ≡ named_count → (length c.fields ≤ max_arguments) × (length c.named ≤ max_arguments) → ⊥
     too_many count named_count c many a b fits = parts (leb count max_arguments) (leb named_count max_arguments) many refl refl
       where
         parts : (p q : Bool) → (p && q) ≡ false → leb count max_arguments ≡ p → leb named_count max_arguments ≡ q → ⊥
@@ -94,7 +99,7 @@ call_reads =
 few_indices : (n : ℕ) (xs : List ℤ) → leb n max_dimensions ≡ true → length xs ≡ n → length xs ≤ max_dimensions
 few_indices n xs e is = omega (arith, leb-true _ _ e, is)
 
-indices_reads : Reads Always indices indices_at
+indices_reads : Reads Always index_list indices_at
 unfolding indices_at index_list_at
 indices_reads =
     bind_reads (unit 4) (λ (xs : List ℤ). length xs) (unit_reads 4) (λ _ _. tt) (λ n _.
@@ -108,7 +113,8 @@ element_reads : Reads Always element_parts element_at
 unfolding element_at
 element_reads =
     bind_reads call_parts (λ (e : ElementParts). e.call) call_reads (λ _ _. tt) (λ call _.
-    made_reads (parts_of_element call) indices_reads (λ _ _. (tt, refl)) (λ e p text q form. (e.indices, tt, ap (λ (c : CallParts). parts_of_element c e.indices) (sym q.1))))
+    made_reads (parts_of_element call) indices_reads (λ _ _. (tt, refl))
+    (λ e p text q form. (e.indices, tt, ap (λ (c : CallParts). parts_of_element c e.indices) (sym q.1))))
 
 put_reads : Reads Always put_parts put_at
 unfolding put_at
@@ -140,7 +146,8 @@ string_reads =
     ignored_then 4 (bind_reads (each (unit 2)) (λ (units : List ℕ). units) (many_reads (unit_reads 2) n) (λ units h. (h.1, all_always units)) (λ units is_n.
     made_reads (λ _. units) (align_reads 8) (λ _ _. ((tt, is_n.0), refl)) (λ c p text h form. (tt, tt, sym h.1)))))
 
-ids_is : (g : GetIds) (object : ℕ) (interface riid : List ℕ) (lcid : ℕ) → g.object ≡ object → g.interface ≡ interface → g.riid ≡ riid → g.lcid ≡ lcid → ids_of object interface riid lcid g.names ≡ g
+ids_is : (g : GetIds) (object : ℕ) (interface riid : List ℕ) (lcid : ℕ) → g.object ≡ object → g.interface ≡ interface → g.riid ≡ riid → g.lcid ≡ lcid
+    → ids_of object interface riid lcid g.names ≡ g
 ids_is g object interface riid lcid a b c d = rw (← a, ← b, ← c, ← d) refl
 
 get_ids_reads : Reads Always get_ids get_ids_at
@@ -158,7 +165,8 @@ get_ids_reads =
     (λ g p text q form. (g.names, (q.1, all_always g.names), ids_is g object interface riid lcid q.0.0.0.0.1 q.0.0.0.1 q.0.0.1 q.0.1))))
     (λ none. fail_reads (λ g p text q form. no_names count g none q.1 form.first.fact))))))))
   where
-    few_names : (count : ℕ) (g : GetIds) → (leb 1 count && leb count max_names) ≡ true → length g.names ≡ count → (1 ≤ length g.names) × (length g.names ≤ max_names)
+    few_names : (count : ℕ) (g : GetIds) → (leb 1 count && leb count max_names) ≡ true → length g.names ≡ count → (1 ≤ length g.names)
+        × (length g.names ≤ max_names)
     few_names count g few a = parts (leb 1 count) (leb count max_names) few refl refl
       where
         parts : (p q : Bool) → (p && q) ≡ true → leb 1 count ≡ p → leb count max_names ≡ q → (1 ≤ length g.names) × (length g.names ≤ max_names)
@@ -166,7 +174,8 @@ get_ids_reads =
         parts true false e x y = absurd cc
         parts false q e x y = absurd cc
 
-    no_names : (count : ℕ) (g : GetIds) → (leb 1 count && leb count max_names) ≡ false → length g.names ≡ count → (1 ≤ length g.names) × (length g.names ≤ max_names) → ⊥
+    no_names : (count : ℕ) (g : GetIds) → (leb 1 count && leb count max_names) ≡ false → length g.names ≡ count → (1 ≤ length g.names)
+        × (length g.names ≤ max_names) → ⊥
     no_names count g none a fits = parts (leb 1 count) (leb count max_names) none refl refl
       where
         parts : (p q : Bool) → (p && q) ≡ false → leb 1 count ≡ p → leb count max_names ≡ q → ⊥
@@ -193,7 +202,8 @@ no_layout (Layout.PutElementBody put) e = cc
 no_layout (Layout.RedimensionBody redim) e = cc
 no_layout (Layout.QueryBody query) e = cc
 
-fields_takes : (k : Opcode) (p : ℕ) (bytes : List ℕ) (l : Layout) (end : Cursor) → fields_at k (at p bytes) ≡ Some (l, end) → (opcode_of l ≡ k) × Takes (fields l) p bytes end
+fields_takes : (k : Opcode) (p : ℕ) (bytes : List ℕ) (l : Layout) (end : Cursor) → fields_at k (at p bytes) ≡ Some (l, end) → (opcode_of l ≡ k)
+    × Takes (fields l) p bytes end
 unfolding fields_at
 fields_takes opcodes.Create = made_takes (λ l. opcode_of l ≡ opcodes.Create) fields Layout.CreateBody guid_reads (λ _ _. refl)
 fields_takes (opcodes.ByNumber kind) = made_takes (λ l. opcode_of l ≡ opcodes.ByNumber kind) fields (Layout.NumberBody kind) number_reads (λ _ _. refl)
@@ -219,11 +229,12 @@ fields_again p text rest (Layout.QueryBody query) form = nothing_again (Layout.Q
 fields_reads : (k : Opcode) → Reads (λ l. opcode_of l ≡ k) fields (fields_at k)
 fields_reads k = record {
   takes = fields_takes k;
-  again = λ p text rest l h form. subst (λ (j : Opcode). fields_at j (at p (text ++ rest)) ≡ Some (l, at (p + length text) rest)) h (fields_again p text rest l form);
+  again = λ p text rest l h form. subst (λ (j : Opcode). fields_at j (at p (text ++ rest)) ≡ Some (l, at (p + length text) rest)) h
+      (fields_again p text rest l form);
 }
 
-named_reads : (n : ℕ) (o : Option Opcode) → opcode_named n ≡ o → Reads (λ l. opcode_number (opcode_of l) ≡ n) fields (named_at o)
-unfolding named_at
+named_reads : (n : ℕ) (o : Option Opcode) → opcode_named n ≡ o → Reads (λ l. opcode_number (opcode_of l) ≡ n) fields (layout_by_opcode o)
+unfolding layout_by_opcode
 named_reads n None e = fail_reads (λ l p text h _.
     let some : opcode_named n ≡ Some (opcode_of l) = ap opcode_named (sym h) ∙ named_back (opcode_of l) in
     absurd cc)

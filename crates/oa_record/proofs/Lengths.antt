@@ -5,10 +5,11 @@ use Rattle.std.proofs.lemmas.Bool.{eqb-false}
 use Rattle.std.proofs.lemmas.List.{append-nil, length-append, length-replicate}
 use Rattle.std.proofs.lemmas.List.Concat.{flat_map-cons}
 use Rattle.std.specs.List.{flat_map}
-use Rattle.oa_model.specs.Limits.{max_names}
-use Rattle.oa_ndr.specs.Forms.{padding}
+use Rattle.oa_model.specs.promise.Limits.{max_names}
+use Rattle.oa_ndr.specs.promise.Forms.{padding}
 use Rattle.oa_ndr.specs.Writing.{FieldOutput, field_after, in_field}
-use Rattle.oa_record.specs.Replies.{word, half_word, max_fields_bytes, max_value_bytes, signed_word, number_field, padded}
+use Rattle.oa_record.specs.promise.Replies.{word, half_word, signed_word, number_field, padded}
+use Rattle.oa_record.specs.Replies.{max_fields_bytes, max_value_bytes}
 
 pub signed_length : (ids : List ℤ) → length (flat_map signed_word ids) ≡ 4 * length ids
 unfolding word
@@ -44,18 +45,28 @@ padded_small n few = by_test (eqb (n % 8) 0) refl
 -- the longest field of a value
 pub value_small : (n : ℕ) (bytes : List ℕ) → length bytes ≤ max_value_bytes → length (number_field n ++ padded bytes) ≤ max_fields_bytes
 value_small n bytes few =
-    omega (arith, padded_small (length bytes) few, number_length n, length-append (number_field n) (padded bytes), length-append bytes (replicate (padding 8 (length bytes)) 0), length-replicate {A = ℕ} (padding 8 (length bytes)) 0)
+    omega (
+      arith,
+      padded_small (length bytes) few,
+      number_length n,
+      length-append (number_field n) (padded bytes),
+      length-append bytes
+          (replicate (padding 8 (length bytes)) 0),
+      length-replicate {A = ℕ} (padding 8 (length bytes)) 0,
+    )
 
 -- and that of DISPIDs
 pub small_field : (n : ℕ) (ids : List ℤ) → length ids ≤ max_names → length (number_field n ++ padded (flat_map signed_word ids)) ≤ max_fields_bytes
 small_field n ids few = value_small n (flat_map signed_word ids) (omega (arith, few, signed_length ids))
 
 -- a field that was written at the end of a vector
-pub field_added : {E : Type 0} (r : Result (Unit {0}) E) (old whole : List ℕ) (new : FieldOutput) (put : List ℕ → List ℕ) → whole ≡ new.before ++ new.field → OnOk r (new ≡ in_field put (field_after old)) → OnOk r (whole ≡ old ++ put [])
+pub field_added : {E : Type 0} (r : Result (Unit {0}) E) (old whole : List ℕ) (new : FieldOutput) (put : List ℕ → List ℕ) → whole ≡ new.before ++ new.field
+    → OnOk r (new ≡ in_field put (field_after old)) → OnOk r (whole ≡ old ++ put [])
 field_added (Ok u) old whole new put is h = is ∙ ap (λ (o : FieldOutput). o.before ++ o.field) h
 field_added (Err e) old whole new put is h = tt
 
 -- and one that was not
-pub field_kept : {E : Type 0} (r : Result (Unit {0}) E) (old whole : List ℕ) (new : FieldOutput) → whole ≡ new.before ++ new.field → OnErr r (new ≡ field_after old) → OnErr r (whole ≡ old)
+pub field_kept : {E : Type 0} (r : Result (Unit {0}) E) (old whole : List ℕ) (new : FieldOutput) → whole ≡ new.before ++ new.field
+    → OnErr r (new ≡ field_after old) → OnErr r (whole ≡ old)
 field_kept (Ok u) old whole new is h = tt
 field_kept (Err e) old whole new is h = is ∙ ap (λ (o : FieldOutput). o.before ++ o.field) h ∙ append-nil old

@@ -1,7 +1,7 @@
 -- Each opcode has one number, and each number at most one opcode.
 use Rattle.std.proofs.Common.{◌≡◌, ℕ, Bool, true, false, eqb, cond, Option, Some, refl, sym, ap, ◌∙◌}
 use Rattle.std.proofs.lemmas.Bool.{eqb-true}
-use Rattle.oa_record.specs.Opcodes.{opcode_number, opcode_named}
+use Rattle.oa_record.specs.promise.Opcodes.{opcode_number, opcode_named}
 use Rattle.oa_record.specs.declared.opcode.Opcode.{Opcode}
 use Rattle.oa_record.specs.declared.opcode.Opcode.TheVariants as opcodes
 use Rattle.oa_record.specs.declared.opcode.ByCall.TheVariants as by_call
@@ -28,7 +28,8 @@ some_opcode k = Some k
 pub same_opcode : (k j : Opcode) → some_opcode k ≡ Some j → k ≡ j
 same_opcode k j e = cc
 
-tried : (n m : ℕ) (j : Opcode) (other : Option Opcode) (k : Opcode) → opcode_number j ≡ m → cond (eqb n m) (Some j) other ≡ Some k → (other ≡ Some k → opcode_number k ≡ n) → opcode_number k ≡ n
+tried : (n m : ℕ) (j : Opcode) (other : Option Opcode) (k : Opcode) → opcode_number j ≡ m → cond (eqb n m) (Some j) other ≡ Some k
+    → (other ≡ Some k → opcode_number k ≡ n) → opcode_number k ≡ n
 tried n m j other k is e next = by_test (eqb n m) refl e
   where
     by_test : (b : Bool) → eqb n m ≡ b → cond b (Some j) other ≡ Some k → opcode_number k ≡ n

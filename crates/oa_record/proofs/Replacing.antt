@@ -1,10 +1,10 @@
 -- A body that asks for another library asks no request.
 use Rattle.std.proofs.Common.{◌≡◌, inl, ℕ, Bool, true, false, ◌==◌, if◌then◌else◌, List, length, nat_lt, sym, ◌∙◌, true≢false, ap}
 use Rattle.std.proofs.lemmas.Bool.{eqb-true}
-use Rattle.oa_record.specs.Asks.{IsStub}
-use Rattle.oa_record.specs.Layouts.{Layout, opcode_of}
-use Rattle.oa_record.specs.Opcodes.{opcode_number, opcode_at, opcode_named}
-use Rattle.oa_record.specs.Replacement.{is_replacement}
+use Rattle.oa_record.specs.promise.Asks.{IsStub}
+use Rattle.oa_record.specs.promise.Layouts.{Layout, opcode_of}
+use Rattle.oa_record.specs.promise.Opcodes.{opcode_number, opcode_at, opcode_named}
+use Rattle.oa_record.specs.promise.Replacement.{is_replacement}
 use Rattle.oa_record.specs.declared.opcode.Opcode.TheVariants as opcodes
 use Rattle.oa_record.proofs.Header.{opcode_lies}
 use Rattle.oa_record.proofs.LayoutLaws.{no_layout}

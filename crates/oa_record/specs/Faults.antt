@@ -1,7 +1,7 @@
 -- The codes of refusals (MS-ERREF section 2.1), and the indices that are reported with them.
 use Rattle.std.specs.Prelude.{ℕ, Option, None}
 use Rattle.oa_model.specs.declared.hresult.HResult.{HResult}
-use Rattle.oa_model.specs.Codes.{bad_stub_data, disp_e_badvartype, e_outofmemory}
+use Rattle.oa_model.specs.promise.Codes.{bad_stub_data, disp_e_badvartype, e_outofmemory}
 use Rattle.oa_record.specs.declared.fault.RecordFault.{RecordFault}
 use Rattle.oa_record.specs.declared.fault.RecordFault.TheVariants.{Stub, BadVarType, Memory}
 

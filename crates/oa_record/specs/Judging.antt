@@ -3,9 +3,10 @@ use Rattle.std.specs.Prelude.{◌≡◌, ℕ, ◌<◌, ◌==◌, if◌then◌els
 use Rattle.std.specs.List.{AllByRecursion}
 use Rattle.oa_variant.specs.declared.variant.Variant.{Variant}
 use Rattle.oa_wire_array.specs.declared.fault.WireFault.TheVariants as faults
-use Rattle.oa_record.specs.Layouts.{Layout, opcode_of, variant_fields}
-use Rattle.oa_record.specs.Opcodes.{before_memory}
-use Rattle.oa_record.specs.Asks.{AllSpell, IsUnbroken, SpellsNothing, HasBroken, HasBadType, field_index, request_of}
+use Rattle.oa_record.specs.promise.Layouts.{Layout, opcode_of, variant_fields}
+use Rattle.oa_record.specs.promise.Opcodes.{before_memory}
+use Rattle.oa_record.specs.promise.Asks.{AllSpell, IsUnbroken, SpellsNothing, HasBroken, HasBadType, field_index}
+use Rattle.oa_record.specs.promise.Asks.{request_of}
 use Rattle.oa_record.specs.declared.request.Request.{Request}
 use Rattle.oa_record.specs.declared.fault.RecordFault.{RecordFault}
 use Rattle.oa_record.specs.declared.fault.RecordFault.TheVariants.{Stub, BadVarType, Memory}

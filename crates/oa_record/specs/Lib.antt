@@ -1,11 +1,9 @@
 pub mod Opcodes
-pub mod CallParts
-pub mod Layouts
 pub mod Asks
 pub mod Reading
 pub mod Shown
 pub mod Judging
-pub mod Replacement
 pub mod ValueCalls
 pub mod Replies
 pub mod Faults
+pub mod promise

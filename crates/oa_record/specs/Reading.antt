@@ -2,14 +2,15 @@
 -- project's choice.)
 use Rattle.std.specs.Prelude.{◌≡◌, ℕ, ℤ, ◌+◌, ◌<◌, ◌≤◌, ◌&&◌, nat_le, List, length, Option, Some, None, Result, Ok, Err}
 use Rattle.std.specs.Int.{w32, cast_signed}
-use Rattle.oa_model.specs.Limits.{max_arguments, max_dimensions, max_names}
-use Rattle.oa_ndr.specs.Reading.{Cursor, Reading, ◌>>=◌, give, fail, choose, unit_at, bytes_at, align_at, many}
-use Rattle.oa_model.specs.Guids.{wire_order}
+use Rattle.oa_model.specs.promise.Limits.{max_arguments, max_dimensions, max_names}
+use Rattle.oa_ndr.specs.promise.Reading.{Cursor, Decoder, ◌>>=◌, give, fail, bytes_at, many}
+use Rattle.oa_ndr.specs.Reading.{choose, unit_at, align_at}
+use Rattle.oa_model.specs.promise.Guids.{wire_order}
 use Rattle.oa_model.specs.declared.bound.Bound.{Bound}
 use Rattle.oa_wire_array.specs.ArrayReading.{bound_at}
-use Rattle.oa_record.specs.CallParts.{CallParts, ElementParts, PutParts, RedimParts}
-use Rattle.oa_record.specs.Layouts.{Layout}
-use Rattle.oa_record.specs.Opcodes.{opcode_named, opcode_at, opcode_before_memory, before_memory}
+use Rattle.oa_record.specs.promise.CallParts.{CallParts, ElementParts, PutParts, RedimParts}
+use Rattle.oa_record.specs.promise.Layouts.{Layout}
+use Rattle.oa_record.specs.promise.Opcodes.{opcode_named, opcode_at, opcode_before_memory, before_memory}
 use Rattle.oa_record.specs.declared.opcode.Opcode.{Opcode}
 use Rattle.oa_record.specs.declared.opcode.Opcode.TheVariants as opcodes
 use Rattle.oa_record.specs.declared.request.CallHead.{CallHead}
@@ -75,17 +76,17 @@ abbrev pub Starves : {X : Type 0} → Result X RecordFault → List ℕ → Type
 Starves (Ok x) body = Unit {0}
 Starves (Err e) body = IsStarvedBody e body
 
-unfoldable pub guid_at : Reading (List ℕ)
+unfoldable pub guid_at : Decoder (List ℕ)
 guid_at = do
   bytes ← bytes_at 16
   give (wire_order bytes)
 
-unfoldable pub dispid_at : Reading ℤ
+unfoldable pub dispid_at : Decoder ℤ
 dispid_at = do
   x ← unit_at 4
   give (cast_signed w32 x)
 
-unfoldable pub field_at : Reading (List ℕ)
+unfoldable pub field_at : Decoder (List ℕ)
 field_at = do
   n ← unit_at 4
   _ ← unit_at 4
@@ -98,7 +99,7 @@ abbrev pub head_of : ℕ → ℤ → List ℕ → List ℕ → ℕ → ℕ → C
 head_of object dispid interface riid lcid flags =
     record { object = object; dispid = dispid; interface = interface; riid = riid; lcid = lcid; flags = flags }
 
-unfoldable pub call_head_at : Reading CallHead
+unfoldable pub call_head_at : Decoder CallHead
 call_head_at = do
   object ← unit_at 4
   dispid ← dispid_at
@@ -114,14 +115,14 @@ abbrev pub parts_of : CallHead → List ℤ → List (List ℕ) → CallParts
 parts_of head named fields = record { head = head; named = named; fields = fields }
 
 -- Reads the lists of a call, after its counts.
-unfoldable pub lists_at : CallHead → ℕ → ℕ → Reading CallParts
+unfoldable pub lists_at : CallHead → ℕ → ℕ → Decoder CallParts
 lists_at head count named_count = do
   named ← many dispid_at named_count
   _ ← align_at 8
   fields ← many field_at count
   give (parts_of head named fields)
 
-unfoldable pub call_at : Reading CallParts
+unfoldable pub call_at : Decoder CallParts
 call_at = do
   head ← call_head_at
   count ← unit_at 4
@@ -129,13 +130,13 @@ call_at = do
   choose (nat_le count max_arguments && nat_le named_count max_arguments) (lists_at head count named_count) fail
 
 -- Reads the indices of an index list, after their number.
-unfoldable pub index_list_at : ℕ → Reading (List ℤ)
+unfoldable pub index_list_at : ℕ → Decoder (List ℤ)
 index_list_at count = do
   xs ← many dispid_at count
   _ ← align_at 8
   give xs
 
-unfoldable pub indices_at : Reading (List ℤ)
+unfoldable pub indices_at : Decoder (List ℤ)
 indices_at = do
   count ← unit_at 4
   _ ← unit_at 4
@@ -144,7 +145,7 @@ indices_at = do
 abbrev pub parts_of_element : CallParts → List ℤ → ElementParts
 parts_of_element call indices = record { call = call; indices = indices }
 
-unfoldable pub element_at : Reading ElementParts
+unfoldable pub element_at : Decoder ElementParts
 element_at = do
   call ← call_at
   indices ← indices_at
@@ -153,7 +154,7 @@ element_at = do
 abbrev pub put_of : ElementParts → List ℕ → PutParts
 put_of element value = record { element = element; value = value }
 
-unfoldable pub put_at : Reading PutParts
+unfoldable pub put_at : Decoder PutParts
 put_at = do
   element ← element_at
   value ← field_at
@@ -162,14 +163,14 @@ put_at = do
 abbrev pub redim_of : CallParts → Bound → RedimParts
 redim_of call bound = record { call = call; bound = bound }
 
-unfoldable pub redim_at : Reading RedimParts
+unfoldable pub redim_at : Decoder RedimParts
 redim_at = do
   call ← call_at
   bound ← bound_at
   give (redim_of call bound)
 
 -- Reads the units of a string.
-unfoldable pub string_at : Reading (List ℕ)
+unfoldable pub string_at : Decoder (List ℕ)
 string_at = do
   n ← unit_at 4
   _ ← unit_at 4
@@ -182,12 +183,12 @@ ids_of object interface riid lcid names =
     record { object = object; interface = interface; riid = riid; lcid = lcid; names = names }
 
 -- Reads the names of a look-up, after their number.
-unfoldable pub names_at : ℕ → List ℕ → List ℕ → ℕ → ℕ → Reading GetIds
+unfoldable pub names_at : ℕ → List ℕ → List ℕ → ℕ → ℕ → Decoder GetIds
 names_at object interface riid lcid count = do
   names ← many string_at count
   give (ids_of object interface riid lcid names)
 
-unfoldable pub get_ids_at : Reading GetIds
+unfoldable pub get_ids_at : Decoder GetIds
 get_ids_at = do
   object ← unit_at 4
   _ ← unit_at 4
@@ -198,14 +199,14 @@ get_ids_at = do
   choose (nat_le 1 count && nat_le count max_names) (names_at object interface riid lcid count) fail
 
 -- Reads a number and a reserved one.
-unfoldable pub number_at : Reading ℕ
+unfoldable pub number_at : Decoder ℕ
 number_at = do
   n ← unit_at 4
   _ ← unit_at 4
   give n
 
 -- Reads the fields of an opcode.
-unfoldable pub fields_at : Opcode → Reading Layout
+unfoldable pub fields_at : Opcode → Decoder Layout
 fields_at opcodes.Create = do
   class ← guid_at
   give (Layout.CreateBody class)
@@ -231,14 +232,14 @@ fields_at (opcodes.Query query) = give (Layout.QueryBody query)
 fields_at opcodes.Replace = fail
 
 -- Reads the fields of an opcode; fails if there is no opcode.
-unfoldable pub named_at : Option Opcode → Reading Layout
-named_at None = fail
-named_at (Some opcode) = fields_at opcode
+unfoldable pub layout_by_opcode : Option Opcode → Decoder Layout
+layout_by_opcode None = fail
+layout_by_opcode (Some opcode) = fields_at opcode
 
 -- Reads a whole body.
-unfoldable pub layout_at : Reading Layout
+unfoldable pub layout_at : Decoder Layout
 layout_at = do
   _ ← unit_at 4
   n ← unit_at 2
   _ ← unit_at 2
-  named_at (opcode_named n)
+  layout_by_opcode (opcode_named n)

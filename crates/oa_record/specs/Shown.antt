@@ -1,5 +1,5 @@
 -- The parts of a body as the code represents them. (This project's choice.)
-use Rattle.oa_record.specs.Layouts.{Layout}
+use Rattle.oa_record.specs.promise.Layouts.{Layout}
 use Rattle.oa_record.specs.Reading.{parts_of_element, put_of, redim_of}
 use Rattle.oa_record.specs.declared.body_parts.Parts.{Parts}
 use Rattle.oa_record.specs.declared.body_parts.Parts.TheVariants.{Create, Number, GetIds, Call, GetElement}

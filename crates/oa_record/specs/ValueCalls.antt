@@ -2,12 +2,13 @@
 use Rattle.std.specs.Prelude.{ℕ, ℤ, negsuc, ◌&&◌, nat_le, List, [], ◌∷◌, take, drop, Option, Some, None}
 use Rattle.std.specs.Int.{w32, cast_signed}
 use Rattle.byteorder.specs.Endian.{little_number}
-use Rattle.oa_model.specs.Guids.{wire_order}
-use Rattle.oa_model.specs.Limits.{max_arguments}
-use Rattle.oa_ndr.specs.Reading.{Reading, choose, fail}
+use Rattle.oa_model.specs.promise.Guids.{wire_order}
+use Rattle.oa_model.specs.promise.Limits.{max_arguments}
+use Rattle.oa_ndr.specs.promise.Reading.{Decoder, fail}
+use Rattle.oa_ndr.specs.Reading.{choose}
 use Rattle.oa_variant.specs.declared.variant.Variant.{Variant}
-use Rattle.oa_wire_variant.specs.Variants.{Spells}
-use Rattle.oa_record.specs.CallParts.{CallParts}
+use Rattle.oa_wire_variant.specs.promise.Variants.{Spells}
+use Rattle.oa_record.specs.promise.CallParts.{CallParts}
 use Rattle.oa_record.specs.declared.request.Call.{Call}
 use Rattle.oa_record.specs.Reading.{head_of, lists_at}
 use Rattle.oa_record.specs.declared.request.CallHead.{CallHead}
@@ -41,8 +42,8 @@ abbrev pub invoke_front : ℕ
 invoke_front = 64
 
 -- The number of `n` bytes at an offset of the body, little-endian.
-abbrev pub number_in : ℕ → ℕ → List ℕ → ℕ
-number_in n place body = little_number n (take n (drop place body))
+abbrev pub body_number : ℕ → ℕ → List ℕ → ℕ
+body_number n place body = little_number n (take n (drop place body))
 
 -- The GUID at an offset of the body.
 abbrev pub guid_in : ℕ → List ℕ → List ℕ
@@ -51,11 +52,11 @@ guid_in place body = wire_order (take 16 (drop place body))
 -- The head of an INVOKE, from the offsets of its fields.
 abbrev pub head_in : List ℕ → CallHead
 head_in body =
-    head_of (number_in 4 8 body) (cast_signed w32 (number_in 4 12 body)) (guid_in 16 body) (guid_in 32 body)
-    (number_in 4 48 body) (number_in 2 52 body)
+    head_of (body_number 4 8 body) (cast_signed w32 (body_number 4 12 body)) (guid_in 16 body) (guid_in 32 body)
+    (body_number 4 48 body) (body_number 2 52 body)
 
 -- Reads the lists of an INVOKE, after the counts in `body`; fails if a count is above `max_arguments`.
-unfoldable pub lists_behind : List ℕ → Reading CallParts
+unfoldable pub lists_behind : List ℕ → Decoder CallParts
 lists_behind body =
-    choose (nat_le (number_in 4 56 body) max_arguments && nat_le (number_in 4 60 body) max_arguments)
-    (lists_at (head_in body) (number_in 4 56 body) (number_in 4 60 body)) fail
+    choose (nat_le (body_number 4 56 body) max_arguments && nat_le (body_number 4 60 body) max_arguments)
+    (lists_at (head_in body) (body_number 4 56 body) (body_number 4 60 body)) fail

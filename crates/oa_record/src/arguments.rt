@@ -1,11 +1,12 @@
 //! The lists of a call: DISPIDs and arguments.
 ghost use Rattle.std.specs.Prelude.{◌≡◌, ◌≤◌, length};
-ghost use Rattle.oa_model.specs.Limits.{max_arguments};
+ghost use Rattle.oa_model.specs.promise.Limits.{max_arguments};
 
 use oa_variant::Variant;
 use std::marker::Model;
 
-/// The DISPIDs of the named arguments of a call, at most 32 (rgdispidNamedArgs, MS-OAUT section 3.1.4.4).
+/// The DISPIDs of the named arguments of a call, at most 32 (rgdispidNamedArgs, MS-OAUT section
+/// 3.1.4.4).
 #[derive(Debug, Drop)]
 pub struct Dispids {
     dispids: Vec<i32>,
@@ -13,7 +14,7 @@ pub struct Dispids {
 
 impl Model for Dispids {
     ghost use Rattle.std.specs.Prelude.{List, ℤ, ◌≤◌, length};
-    ghost use Rattle.oa_model.specs.Limits.{max_arguments};
+    ghost use Rattle.oa_model.specs.promise.Limits.{max_arguments};
 
     ghost Value = { List ℤ };
 
@@ -40,8 +41,8 @@ impl Dispids {
     }
 }
 
-/// The arguments of a call in the order of rgvarg, at most 32 (MS-OAUT section 3.1.4.4): the named ones first, then the others from the
-/// last parameter to the first.
+/// The arguments of a call in the order of rgvarg, at most 32 (MS-OAUT section 3.1.4.4): the named
+/// ones first, then the others from the last parameter to the first.
 #[derive(Debug, Drop)]
 pub struct Arguments {
     values: Vec<Variant>,
@@ -49,7 +50,7 @@ pub struct Arguments {
 
 impl Model for Arguments {
     ghost use Rattle.std.specs.Prelude.{List, ◌≤◌, length};
-    ghost use Rattle.oa_model.specs.Limits.{max_arguments};
+    ghost use Rattle.oa_model.specs.promise.Limits.{max_arguments};
     ghost use Rattle.oa_variant.specs.declared.variant.Variant.{Variant as AVariant};
 
     ghost Value = { List AVariant };

@@ -15,8 +15,8 @@ pub enum RecordFault {
     /// The body has the layout of no request, or the field of a value is broken.
     #[error("bad stub data")]
     Stub,
-    /// A value has a type outside this server's profile. The number is its index in rgvarg, the lowest of such values; None for a value
-    /// that is not an argument.
+    /// A value has a type outside this server's profile. The number is its index in rgvarg, the
+    /// lowest of such values; None for a value that is not an argument.
     #[error("bad variable type")]
     BadVarType(Option<u32>),
     /// The allocation of a value, a name or a list of the request fails.
@@ -25,7 +25,8 @@ pub enum RecordFault {
 }
 
 impl RecordFault {
-    /// Returns the code of the reply (MS-ERREF section 2.1): RPC_X_BAD_STUB_DATA as an HRESULT, DISP_E_BADVARTYPE or E_OUTOFMEMORY.
+    /// Returns the code of the reply (MS-ERREF section 2.1): RPC_X_BAD_STUB_DATA as an HRESULT,
+    /// DISP_E_BADVARTYPE or E_OUTOFMEMORY.
     pub fn code(self) -> HResult
         ensures { result ≡ record_code self }
     {
@@ -36,7 +37,7 @@ impl RecordFault {
         }
     }
 
-    /// Returns the index in rgvarg that the reply contains, if any.
+    /// Returns the index in rgvarg that the reply contains; None if it contains none.
     pub fn index(self) -> Option<u32>
         ensures { result ≡ index_told self }
     {

@@ -1,10 +1,10 @@
 //! Theorems about the definitions, each the contract of a function with nothing to execute.
 ghost use Rattle.std.specs.Prelude.{◌≡◌, ◌≤◌, ℕ, true, List, Option, Some, length};
-ghost use Rattle.oa_record.specs.Opcodes.{opcode_number, opcode_at, opcode_named};
+ghost use Rattle.oa_record.specs.promise.Opcodes.{opcode_number, opcode_at, opcode_named};
 ghost use Rattle.oa_record.specs.declared.opcode.Opcode.{Opcode as AnOpcode};
 ghost use Rattle.oa_record.specs.declared.request.Request.{Request as ARequest};
-ghost use Rattle.oa_record.specs.Replacement.{is_replacement};
-ghost use Rattle.oa_record.specs.Asks.{Asks, IsStub, IsBadVarType, request_opcode};
+ghost use Rattle.oa_record.specs.promise.Replacement.{is_replacement};
+ghost use Rattle.oa_record.specs.promise.Asks.{Asks, IsStub, IsBadVarType, request_opcode};
 
 /// No body encodes two requests.
 pub fn one_request()
@@ -25,7 +25,8 @@ pub fn one_refusal()
     ensures index { (body : List ℕ) (i j : Option ℕ) → IsBadVarType body i → IsBadVarType body j → i ≡ j }
 {}
 
-/// A body that encodes a request has at least 8 bytes and contains the opcode of this request at its offset 4.
+/// A body that encodes a request has at least 8 bytes and contains the opcode of this request at
+/// its offset 4.
 pub fn opcode_stands()
     ensures { (body : List ℕ) (q : ARequest) → Asks body q → (8 ≤ length body) × (opcode_at body ≡ opcode_number (request_opcode q)) }
 {}

@@ -2,7 +2,8 @@
 ghost use Rattle.std.specs.Prelude.{◌≡◌, ◌≤◌, ◌+◌, map, length, None, Some, IfOk};
 ghost use Rattle.std.specs.Int.{cast_signed, w32};
 ghost use Rattle.std.specs.Option.{option_map};
-ghost use Rattle.oa_ndr.specs.Reading.{many, unit_at, whole};
+ghost use Rattle.oa_ndr.specs.promise.Reading.{many};
+ghost use Rattle.oa_ndr.specs.Reading.{unit_at, whole};
 ghost use Rattle.oa_wire_array.specs.ArrayReading.{bound_at};
 ghost use Rattle.oa_record.specs.Reading.{
   ReadsBody,
@@ -28,9 +29,9 @@ ghost use Rattle.oa_record.specs.Reading.{
   fields_at,
   layout_at,
 };
-ghost use Rattle.oa_record.specs.Layouts.{Layout};
+ghost use Rattle.oa_record.specs.promise.Layouts.{Layout};
 ghost use Rattle.oa_record.specs.Shown.{shown};
-ghost use Rattle.oa_record.specs.ValueCalls.{guid_in, head_in, invoke_front, lists_behind, number_in, parts_bringing};
+ghost use Rattle.oa_record.specs.ValueCalls.{body_number, guid_in, head_in, invoke_front, lists_behind, parts_bringing};
 ghost use Rattle.oa_record.specs.declared.opcode.Opcode.TheVariants as opcodes;
 ghost use Rattle.oa_record.specs.declared.opcode.ByCall.TheVariants as by_call;
 
@@ -49,8 +50,8 @@ use uuid::Uuid;
 // The number of bytes of an INVOKE before its lists.
 const INVOKE_FRONT: usize = 64;
 
-/// Reads a GUID in wire order.
-#[tactic(auto, unfolding(oa_ndr::specs::Reading::bind, oa_ndr::specs::Reading::give, crate::specs::Reading::guid_at))]
+/// Reads a GUID of 16 bytes in wire order. Err: fewer bytes are left.
+#[tactic(auto, unfolding(oa_ndr::specs::promise::Reading::bind, oa_ndr::specs::promise::Reading::give, crate::specs::Reading::guid_at))]
 fn guid(r: &mut Ndr<'_>) -> Result<Uuid, Short>
     ensures { ReadsFixed (λ x. x) result r.new (guid_at r.old) }
 {
@@ -60,8 +61,8 @@ fn guid(r: &mut Ndr<'_>) -> Result<Uuid, Short>
     }
 }
 
-/// Reads a DISPID.
-#[tactic(auto, unfolding(oa_ndr::specs::Reading::bind, oa_ndr::specs::Reading::give, crate::specs::Reading::dispid_at))]
+/// Reads a DISPID of 4 bytes. Err: fewer bytes are left.
+#[tactic(auto, unfolding(oa_ndr::specs::promise::Reading::bind, oa_ndr::specs::promise::Reading::give, crate::specs::Reading::dispid_at))]
 fn dispid(r: &mut Ndr<'_>) -> Result<i32, Short>
     ensures { ReadsFixed (λ x. x) result r.new (dispid_at r.old) }
 {
@@ -69,9 +70,9 @@ fn dispid(r: &mut Ndr<'_>) -> Result<i32, Short>
     Ok(number.cast_signed())
 }
 
-/// Reads a variant field and returns its bytes.
+/// Reads a variant field and returns its bytes. Err: fewer bytes are left.
 #[inline(always)]
-#[tactic(auto, unfolding(oa_ndr::specs::Reading::bind, oa_ndr::specs::Reading::give, crate::specs::Reading::field_at))]
+#[tactic(auto, unfolding(oa_ndr::specs::promise::Reading::bind, oa_ndr::specs::promise::Reading::give, crate::specs::Reading::field_at))]
 fn field<'a>(r: &mut Ndr<'a>) -> Result<&'a [u8], Short>
     ensures { ReadsFixed (λ x. x.now) result r.new (field_at r.old) }
 {
@@ -82,7 +83,7 @@ fn field<'a>(r: &mut Ndr<'a>) -> Result<&'a [u8], Short>
     Ok(bytes)
 }
 
-/// Reads `count` DISPIDs.
+/// Reads `count` DISPIDs. Errors: `Stub` if fewer bytes are left; `Memory`.
 fn dispids(alloc: Global, count: u32, r: &mut Ndr<'_>) -> Result<Vec<i32>, RecordFault>
     ensures answers { ReadsBody (λ v. v.items) result r.new (many dispid_at count r.old) }
     ensures count { IfOk result (λ v. length v.items ≡ count) }
@@ -95,7 +96,8 @@ fn dispids(alloc: Global, count: u32, r: &mut Ndr<'_>) -> Result<Vec<i32>, Recor
     Ok(all)
 }
 
-/// Reads `count` variant fields.
+/// Reads `count` variant fields, and returns the bytes of each. Errors: `Stub` if fewer bytes are
+/// left; `Memory`.
 fn fields<'a>(alloc: Global, count: u32, r: &mut Ndr<'a>) -> Result<Vec<&'a [u8]>, RecordFault>
     ensures answers { ReadsBody (λ v. map (λ x. x.now) v.items) result r.new (many field_at count r.old) }
     ensures count { IfOk result (λ v. length v.items ≡ count) }
@@ -108,7 +110,8 @@ fn fields<'a>(alloc: Global, count: u32, r: &mut Ndr<'a>) -> Result<Vec<&'a [u8]
     Ok(all)
 }
 
-/// Reads the head of a call: object, DISPID, GUIDs, lcid, flags and a reserved number.
+/// Reads the head of a call: object, DISPID, GUIDs, lcid, flags and a reserved number. Err: fewer
+/// bytes are left.
 #[inline(always)]
 #[tactic(auto, unfolding(oa_ndr::specs::Reading::steps, crate::specs::Reading::call_head_at))]
 fn call_head(r: &mut Ndr<'_>) -> Result<CallHead, Short>
@@ -131,7 +134,8 @@ fn call_head(r: &mut Ndr<'_>) -> Result<CallHead, Short>
     })
 }
 
-/// Reads the head of a call, its counts, and the lists after them. `Stub` if a count is above 32.
+/// Reads the head of a call, its counts, and the lists after them. Errors: `Stub` if a count is
+/// above 32 or fewer bytes are left; `Memory`.
 #[tactic(auto, unfolding(oa_ndr::specs::Reading::steps, crate::specs::Reading::call_at, crate::specs::Reading::lists_at))]
 fn call<'a>(alloc: Global, r: &mut Ndr<'a>) -> Result<RawCall<'a>, RecordFault>
     ensures answers { ReadsBody (λ x. x) result r.new (call_at r.old) }
@@ -149,7 +153,7 @@ fn call<'a>(alloc: Global, r: &mut Ndr<'a>) -> Result<RawCall<'a>, RecordFault>
     Ok(RawCall::new(head, named, fields))
 }
 
-/// Skips the padding of empty lists.
+/// Skips the padding of empty lists. Err: fewer bytes are left.
 #[tactic(auto, unfolding(oa_ndr::specs::Reading::steps, crate::specs::Reading::lists_at), using(crate::proofs::Bringing::many_none))]
 fn no_lists(head: CallHead, r: &mut Ndr<'_>) -> Result<(), Short>
     ensures { IfOk result (λ u. lists_at head 0 0 r.old ≡ Some (parts_bringing head None, r.new)) }
@@ -157,7 +161,9 @@ fn no_lists(head: CallHead, r: &mut Ndr<'_>) -> Result<(), Short>
     r.align(8)
 }
 
-/// Reads lists of one entry each: the DISPID of the named argument, which must be DISPID_PROPERTYPUT, and the bytes of its field.
+/// Reads lists of one entry each: the DISPID of the named argument, which must be
+/// DISPID_PROPERTYPUT, and the bytes of its field. Err: it is another DISPID, or fewer bytes are
+/// left.
 #[inline(always)]
 #[tactic(auto, unfolding(oa_ndr::specs::Reading::steps, crate::specs::Reading::lists_at), using(crate::proofs::Bringing::many_one))]
 fn new_value<'a>(head: CallHead, r: &mut Ndr<'a>) -> Result<&'a [u8], Short>
@@ -170,29 +176,29 @@ fn new_value<'a>(head: CallHead, r: &mut Ndr<'a>) -> Result<&'a [u8], Short>
     field(r)
 }
 
-/// Returns the u16 at an offset.
+/// Returns the little-endian u16 at byte `place` of a body.
 #[inline(always)]
 fn u16_at(body: &[u8], place: usize) -> u16
     requires { place + 2 ≤ length body.now }
-    ensures { result ≡ number_in 2 place body.now }
+    ensures { result ≡ body_number 2 place body.now }
 {
     LittleEndian::read_u16(&body[place..])
 }
 
-/// Returns the u32 at an offset.
+/// Returns the little-endian u32 at byte `place` of a body.
 #[inline(always)]
 fn u32_at(body: &[u8], place: usize) -> u32
     requires { place + 4 ≤ length body.now }
-    ensures { result ≡ number_in 4 place body.now }
+    ensures { result ≡ body_number 4 place body.now }
 {
     LittleEndian::read_u32(&body[place..])
 }
 
-/// Returns the DISPID at an offset.
+/// Returns the DISPID at byte `place` of a body.
 #[inline(always)]
 fn dispid_at(body: &[u8], place: usize) -> i32
     requires { place + 4 ≤ length body.now }
-    ensures { result ≡ cast_signed w32 (number_in 4 place body.now) }
+    ensures { result ≡ cast_signed w32 (body_number 4 place body.now) }
 {
     u32_at(body, place).cast_signed()
 }
@@ -209,7 +215,7 @@ fn first_guid(bytes: &[u8]) -> Uuid
     }
 }
 
-/// Returns the GUID at an offset, in wire order.
+/// Returns the GUID at byte `place` of a body, in wire order.
 #[inline(always)]
 fn guid_at(body: &[u8], place: usize) -> Uuid
     requires { place + 16 ≤ length body.now }
@@ -234,7 +240,8 @@ fn head_in(body: &[u8]) -> CallHead
     }
 }
 
-/// Reads the lists of an INVOKE that has no arguments, or a new value only. `r` is at the start of the lists. Err for any other call.
+/// Reads the lists of an INVOKE that has no arguments, or a new value only. `r` is at the start of
+/// the lists. Err for any other call.
 #[inline(always)]
 fn call_behind<'a>(body: &[u8], r: &mut Ndr<'a>) -> Result<ValueParts<'a>, Short>
     requires { invoke_front ≤ length body.now }
@@ -254,12 +261,14 @@ fn call_behind<'a>(body: &[u8], r: &mut Ndr<'a>) -> Result<ValueParts<'a>, Short
     Err(Short)
 }
 
-/// Parses an INVOKE without arguments or with a property's new value only. Err for any other body.
+/// Parses the body of an INVOKE without arguments or with a property's new value only. Err for any
+/// other body.
 #[inline(always)]
 pub(crate) fn read_value_parts(body: &[u8]) -> Result<ValueParts<'_>, Short>
     ensures { IfOk result (λ c. whole layout_at body.now ≡ Some (Layout.CallBody by_call.Invoke (parts_bringing c.head (option_map (λ f. f.now) c.field)))) }
 {
-    // The fields before the lists have fixed offsets: the length is checked once and not for each field.
+    // The fields before the lists have fixed offsets: the length is checked once and not for each
+    // field.
     if body.len() < INVOKE_FRONT || u16_at(body, 4) != Opcode::ByCall(ByCall::Invoke).number() {
         return Err(Short);
     }
@@ -275,7 +284,8 @@ pub(crate) fn read_value_parts(body: &[u8]) -> Result<ValueParts<'_>, Short>
     }
 }
 
-/// Reads an index list. `Stub` for more than 16 indices.
+/// Reads an index list. Errors: `Stub` for more than 16 indices or if fewer bytes are left;
+/// `Memory`.
 #[tactic(auto, unfolding(oa_ndr::specs::Reading::steps, crate::specs::Reading::indices_at, crate::specs::Reading::index_list_at))]
 fn indices(alloc: Global, r: &mut Ndr<'_>) -> Result<Indices, RecordFault>
     ensures { ReadsBody (λ x. x) result r.new (indices_at r.old) }
@@ -290,7 +300,7 @@ fn indices(alloc: Global, r: &mut Ndr<'_>) -> Result<Indices, RecordFault>
     Ok(Indices::new(indices))
 }
 
-/// Reads a call that names an array, and the index list of an element.
+/// Reads a call that names an array, and the index list of an element. Errors: `Stub`, `Memory`.
 #[tactic(auto, unfolding(oa_ndr::specs::Reading::steps, crate::specs::Reading::element_at))]
 fn element<'a>(alloc: Global, r: &mut Ndr<'a>) -> Result<(RawCall<'a>, Indices), RecordFault>
     ensures answers { ReadsBody (λ x. parts_of_element x.0 x.1) result r.new (element_at r.old) }
@@ -301,7 +311,7 @@ fn element<'a>(alloc: Global, r: &mut Ndr<'a>) -> Result<(RawCall<'a>, Indices),
     Ok((call, indices))
 }
 
-/// Reads a new first listed bound.
+/// Reads a new first listed bound of 8 bytes. Err: fewer bytes are left.
 #[tactic(auto, unfolding(oa_ndr::specs::Reading::steps, oa_wire_array::specs::ArrayReading::bound_at, oa_wire_array::specs::Reading::signed_at))]
 fn bound(r: &mut Ndr<'_>) -> Result<Bound, Short>
     ensures { ReadsFixed (λ x. x) result r.new (bound_at r.old) }
@@ -314,7 +324,7 @@ fn bound(r: &mut Ndr<'_>) -> Result<Bound, Short>
     })
 }
 
-/// Reads `count` UTF-16 units.
+/// Reads `count` UTF-16 units. Errors: `Stub` if fewer bytes are left; `Memory`.
 fn units(alloc: Global, count: u32, r: &mut Ndr<'_>) -> Result<Vec<u16>, RecordFault>
     ensures { ReadsBody (λ v. v.items) result r.new (many (unit_at 2) count r.old) }
 {
@@ -326,8 +336,8 @@ fn units(alloc: Global, count: u32, r: &mut Ndr<'_>) -> Result<Vec<u16>, RecordF
     Ok(all)
 }
 
-/// Reads a string and returns its UTF-16 units.
-#[tactic(auto, unfolding(oa_ndr::specs::Reading::bind, oa_ndr::specs::Reading::give, crate::specs::Reading::string_at))]
+/// Reads a string and returns its UTF-16 units. Errors: `Stub` if fewer bytes are left; `Memory`.
+#[tactic(auto, unfolding(oa_ndr::specs::promise::Reading::bind, oa_ndr::specs::promise::Reading::give, crate::specs::Reading::string_at))]
 fn string(alloc: Global, r: &mut Ndr<'_>) -> Result<Vec<u16>, RecordFault>
     ensures { ReadsBody (λ v. v.items) result r.new (string_at r.old) }
 {
@@ -338,7 +348,8 @@ fn string(alloc: Global, r: &mut Ndr<'_>) -> Result<Vec<u16>, RecordFault>
     Ok(units)
 }
 
-/// Reads `count` strings.
+/// Reads `count` strings, and returns the UTF-16 units of each. Errors: `Stub` if fewer bytes are
+/// left; `Memory`.
 #[tactic(auto, using(oa_ndr::proofs::Loop::many_done, oa_ndr::proofs::Loop::many_goes_on, oa_ndr::proofs::Loop::many_ends, std::proofs::lemmas::List::map_push))]
 fn strings(alloc: Global, count: u32, r: &mut Ndr<'_>) -> Result<Vec<Vec<u16>>, RecordFault>
     ensures answers { ReadsBody (λ v. map (λ x. x.items) v.items) result r.new (many string_at count r.old) }
@@ -352,7 +363,8 @@ fn strings(alloc: Global, count: u32, r: &mut Ndr<'_>) -> Result<Vec<Vec<u16>>, 
     Ok(all)
 }
 
-/// Reads a look-up of names: object, GUIDs, lcid, count and the names after it. `Stub` unless there are 1 to 17 names.
+/// Reads a look-up of names: object, GUIDs, lcid, count and the names after it. Errors: `Stub`
+/// unless there are 1 to 17 names, or if fewer bytes are left; `Memory`.
 #[tactic(auto, unfolding(oa_ndr::specs::Reading::steps, crate::specs::Reading::get_ids_at, crate::specs::Reading::names_at))]
 fn get_ids(alloc: Global, r: &mut Ndr<'_>) -> Result<GetIds, RecordFault>
     ensures answers { ReadsBody (λ x. x) result r.new (get_ids_at r.old) }
@@ -377,8 +389,8 @@ fn get_ids(alloc: Global, r: &mut Ndr<'_>) -> Result<GetIds, RecordFault>
     })
 }
 
-/// Reads a number and a reserved one.
-#[tactic(auto, unfolding(oa_ndr::specs::Reading::bind, oa_ndr::specs::Reading::give, crate::specs::Reading::number_at))]
+/// Reads a u32 and a reserved one, and returns the first. Err: fewer bytes are left.
+#[tactic(auto, unfolding(oa_ndr::specs::promise::Reading::bind, oa_ndr::specs::promise::Reading::give, crate::specs::Reading::number_at))]
 fn number(r: &mut Ndr<'_>) -> Result<u32, Short>
     ensures { ReadsFixed (λ x. x) result r.new (number_at r.old) }
 {
@@ -387,8 +399,9 @@ fn number(r: &mut Ndr<'_>) -> Result<u32, Short>
     Ok(number)
 }
 
-/// Reads the fields of GETELEM: a call that names an array, and the indices of an element.
-#[tactic(auto, unfolding(oa_ndr::specs::Reading::bind, oa_ndr::specs::Reading::give, crate::specs::Reading::fields_at))]
+/// Reads the fields of GETELEM: a call that names an array, and the indices of an element. Errors:
+/// `Stub`, `Memory`.
+#[tactic(auto, unfolding(oa_ndr::specs::promise::Reading::bind, oa_ndr::specs::promise::Reading::give, crate::specs::Reading::fields_at))]
 fn get_element<'a>(alloc: Global, r: &mut Ndr<'a>) -> Result<Parts<'a>, RecordFault>
     ensures answers { ReadsBody shown result r.new (fields_at opcodes.GetElement r.old) }
     ensures long { IsBehind 56 result r.old }
@@ -397,7 +410,8 @@ fn get_element<'a>(alloc: Global, r: &mut Ndr<'a>) -> Result<Parts<'a>, RecordFa
     Ok(Parts::GetElement(call, indices))
 }
 
-/// Reads the fields of PUTELEM: a call that names an array, the indices of an element, and its new value.
+/// Reads the fields of PUTELEM: a call that names an array, the indices of an element, and its new
+/// value. Errors: `Stub`, `Memory`.
 #[tactic(auto, unfolding(oa_ndr::specs::Reading::steps, crate::specs::Reading::fields_at, crate::specs::Reading::put_at))]
 fn put_element<'a>(alloc: Global, r: &mut Ndr<'a>) -> Result<Parts<'a>, RecordFault>
     ensures answers { ReadsBody shown result r.new (fields_at opcodes.PutElement r.old) }
@@ -407,7 +421,8 @@ fn put_element<'a>(alloc: Global, r: &mut Ndr<'a>) -> Result<Parts<'a>, RecordFa
     Ok(Parts::PutElement(call, indices, field(r)?))
 }
 
-/// Reads the fields of REDIM: a call that names an array, and its new first listed bound.
+/// Reads the fields of REDIM: a call that names an array, and its new first listed bound. Errors:
+/// `Stub`, `Memory`.
 #[tactic(auto, unfolding(oa_ndr::specs::Reading::steps, crate::specs::Reading::fields_at, crate::specs::Reading::redim_at))]
 fn redimension<'a>(alloc: Global, r: &mut Ndr<'a>) -> Result<Parts<'a>, RecordFault>
     ensures answers { ReadsBody shown result r.new (fields_at opcodes.Redimension r.old) }
@@ -418,8 +433,9 @@ fn redimension<'a>(alloc: Global, r: &mut Ndr<'a>) -> Result<Parts<'a>, RecordFa
     Ok(Parts::Redimension(call, bound))
 }
 
-/// Reads the fields of an opcode. REPLACE LIBRARY has none that are read here.
-#[tactic(auto, unfolding(oa_ndr::specs::Reading::bind, oa_ndr::specs::Reading::give, oa_ndr::specs::Reading::fail, crate::specs::Reading::fields_at))]
+/// Reads the fields of an opcode. REPLACE LIBRARY has none that are read here. Errors: `Stub`, also
+/// for REPLACE LIBRARY; `Memory`.
+#[tactic(auto, unfolding(oa_ndr::specs::promise::Reading::bind, oa_ndr::specs::promise::Reading::give, oa_ndr::specs::promise::Reading::fail, crate::specs::Reading::fields_at))]
 fn fields_of<'a>(alloc: Global, opcode: Opcode, r: &mut Ndr<'a>) -> Result<Parts<'a>, RecordFault>
     ensures answers { ReadsBody shown result r.new (fields_at opcode r.old) }
     ensures memory { StarvesAt result opcode r.old }
@@ -437,8 +453,9 @@ fn fields_of<'a>(alloc: Global, opcode: Opcode, r: &mut Ndr<'a>) -> Result<Parts
     }
 }
 
-/// Parses a whole body. `Memory` only if the opcode's fields need memory and the body has the bytes before the first allocation.
-#[tactic(auto, unfolding(oa_ndr::specs::Reading::steps, crate::specs::Reading::layout_at, crate::specs::Reading::named_at))]
+/// Parses a whole body. Errors: `Stub` if it has the layout of no request; `Memory` only if the
+/// opcode's fields need memory and the body has the bytes before the first allocation.
+#[tactic(auto, unfolding(oa_ndr::specs::Reading::steps, crate::specs::Reading::layout_at, crate::specs::Reading::layout_by_opcode))]
 pub(crate) fn read_parts(alloc: Global, body: &[u8]) -> Result<Parts<'_>, RecordFault>
     ensures all { ReadsBodyToItsEnd shown result (whole layout_at body.now) }
     ensures memory { Starves result body.now }

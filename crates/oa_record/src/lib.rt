@@ -1,10 +1,10 @@
 //! Records: decodes the bodies of requests and encodes replies.
 //!
-//! Contract: `read_request` returns `Ok(request)` if and only if the body encodes this request (`Asks`), and otherwise the one error of the
-//! body. A reply is its 16-byte head followed by the bytes of its fields.
+//! Contract: `read_request` returns `Ok(request)` if and only if the body encodes this request
+//! (`Asks`), and otherwise the one error of the body. A reply is its 16-byte head followed by the
+//! bytes of its fields.
 //!
-//! Used by oa_decision and oa_turn, which execute requests, by oa_server to write replies, and by oa_description for the fields of a type
-//! description.
+//! Used by oa_decision and oa_turn, which execute requests, and by oa_server to write replies.
 #![tactic(auto)]
 
 mod arguments;

@@ -1,10 +1,11 @@
 //! The names of a look-up.
 ghost use Rattle.std.specs.Prelude.{◌≡◌, ◌≤◌, length, map};
-ghost use Rattle.oa_model.specs.Limits.{max_names};
+ghost use Rattle.oa_model.specs.promise.Limits.{max_names};
 
 use std::marker::Model;
 
-/// From 1 to 17 names as UTF-16 units: first that of a member, then those of its parameters (rgszNames, MS-OAUT section 3.1.4.3).
+/// From 1 to 17 names as UTF-16 units: first that of a member, then those of its parameters
+/// (rgszNames, MS-OAUT section 3.1.4.3).
 #[derive(Debug, Drop)]
 pub struct Names {
     names: Vec<Vec<u16>>,
@@ -12,7 +13,7 @@ pub struct Names {
 
 impl Model for Names {
     ghost use Rattle.std.specs.Prelude.{List, ℕ, ◌≤◌, length, map};
-    ghost use Rattle.oa_model.specs.Limits.{max_names};
+    ghost use Rattle.oa_model.specs.promise.Limits.{max_names};
 
     ghost Value = { List (List ℕ) };
 
@@ -22,7 +23,7 @@ impl Model for Names {
 }
 
 impl Names {
-    /// Makes a list of 1 to 17 names.
+    /// Makes a list of 1 to 17 names, each as UTF-16 units.
     pub fn new(names: Vec<Vec<u16>>) -> Names
         requires some { 1 ≤ length names.items }
         requires few { length names.items ≤ max_names }

@@ -1,11 +1,12 @@
 //! Opcodes of requests.
 ghost use Rattle.std.specs.Prelude.{◌≡◌};
-ghost use Rattle.oa_record.specs.Opcodes.{opcode_number, opcode_named, opcode_in};
+ghost use Rattle.oa_record.specs.promise.Opcodes.{opcode_number, opcode_named};
+ghost use Rattle.oa_record.specs.Opcodes.{opcode_in};
 
 use byteorder::{ByteOrder, LittleEndian};
 
-/// The operation of a request, from the u16 at offset 4 of its body. Operations with the same fields share a variant (this project's
-/// choice).
+/// The operation of a request, from the u16 at offset 4 of its body. Operations with the same
+/// fields share a variant (this project's choice).
 #[derive(Clone, Copy, Debug, PartialEq, Eq)]
 pub enum Opcode {
     /// 1: create an object of a coclass, which a GUID names.
@@ -24,8 +25,8 @@ pub enum Opcode {
     Redimension,
     /// The operations without fields.
     Query(Query),
-    /// 12: replace the server's library by that of a text. `Request` has no variant for it, since its text is borrowed (see
-    /// `is_replacement`).
+    /// 12: replace the server's library by that of a text. `Request` has no variant for it, since
+    /// its text is borrowed (see `is_replacement`).
     Replace,
 }
 
@@ -34,8 +35,8 @@ pub enum Opcode {
 pub enum ByNumber {
     /// 2: release the object with this number.
     Release,
-    /// 10: describe an interface or a coclass of the library. The number counts from 0 the interfaces in the order of the library's text,
-    /// and after them the coclasses.
+    /// 10: describe an interface or a coclass of the library. The number counts from 0 the
+    /// interfaces in the order of the library's text, and after them the coclasses.
     TypeInfo,
 }
 
@@ -100,7 +101,8 @@ impl Opcode {
     }
 }
 
-/// Returns the opcode at offset 4 of a body. None if the body has fewer than 8 bytes, or if no opcode has this number.
+/// Returns the opcode at offset 4 of a body. None if the body has fewer than 8 bytes, or if no
+/// opcode has this number.
 pub fn opcode_of(body: &[u8]) -> Option<Opcode>
     ensures { result ≡ opcode_in body.now }
 {

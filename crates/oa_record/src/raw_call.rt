@@ -1,6 +1,6 @@
 //! A call as its body contains it, with its arguments still encoded.
 ghost use Rattle.std.specs.Prelude.{◌≡◌, ◌≤◌, map, length};
-ghost use Rattle.oa_model.specs.Limits.{max_arguments};
+ghost use Rattle.oa_model.specs.promise.Limits.{max_arguments};
 
 use crate::{Arguments, Call, CallHead, Dispids};
 use oa_variant::Variant;
@@ -14,17 +14,20 @@ pub(crate) struct RawCall<'a> {
     fields: Vec<&'a [u8]>,
 }
 
-/// The head of a call whose only argument, if any, is a property's new value, and the bytes of that value's field.
+/// The head of a call whose only argument, if any, is a property's new value, and the bytes of that
+/// value's field.
 #[derive(Drop)]
 pub(crate) struct ValueParts<'a> {
+    /// The object, the member and how it is called.
     pub head: CallHead,
+    /// The bytes of the new value; None if there is none.
     pub field: Option<&'a [u8]>,
 }
 
 impl<'a> Model for RawCall<'a> {
     ghost use Rattle.std.specs.Prelude.{◌≤◌, length, map};
-    ghost use Rattle.oa_model.specs.Limits.{max_arguments};
-    ghost use Rattle.oa_record.specs.CallParts.{CallParts};
+    ghost use Rattle.oa_model.specs.promise.Limits.{max_arguments};
+    ghost use Rattle.oa_record.specs.promise.CallParts.{CallParts};
 
     ghost Value = { CallParts };
 
@@ -34,7 +37,8 @@ impl<'a> Model for RawCall<'a> {
 }
 
 impl<'a> RawCall<'a> {
-    /// Makes a call of at most 32 arguments and at most 32 named ones.
+    /// Makes a call with the DISPIDs of at most 32 named arguments, and the fields of at most 32
+    /// arguments.
     pub(crate) fn new(head: CallHead, named: Vec<i32>, fields: Vec<&'a [u8]>) -> RawCall<'a>
         requires few_named { length named.items ≤ max_arguments }
         requires few { length fields.items ≤ max_arguments }
@@ -55,7 +59,7 @@ impl<'a> RawCall<'a> {
         self.fields.as_slice()
     }
 
-    /// Returns the call with decoded arguments.
+    /// Returns the call with these decoded arguments, at most 32.
     pub(crate) fn with(self, values: Vec<Variant>) -> Call
         requires { length values.items ≤ max_arguments }
         ensures { result ≡ record { head = self.entry.head; named = self.entry.named; arguments = values.items } }

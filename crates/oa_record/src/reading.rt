@@ -1,9 +1,10 @@
 //! Decodes the bodies of requests.
 ghost use Rattle.std.specs.Prelude.{◌≡◌, ◌≤◌, ◌+◌, ◌++◌, ◌∷◌, [], map, length, IfOk, IfErr, IfSome};
-ghost use Rattle.oa_model.specs.Limits.{max_arguments};
-ghost use Rattle.oa_record.specs.Asks.{Asks, IsRequest, call_of, tag_at};
+ghost use Rattle.oa_model.specs.promise.Limits.{max_arguments};
+ghost use Rattle.oa_record.specs.promise.Asks.{Asks, call_of, tag_at};
+ghost use Rattle.oa_record.specs.Asks.{IsRequest};
 ghost use Rattle.oa_record.specs.Judging.{AnswersFields, Requests, TestsFields, TestsField, put_fault};
-ghost use Rattle.oa_record.specs.Layouts.{Layout};
+ghost use Rattle.oa_record.specs.promise.Layouts.{Layout};
 ghost use Rattle.oa_record.specs.Reading.{parts_of_element, put_of};
 ghost use Rattle.oa_record.specs.Shown.{shown};
 ghost use Rattle.oa_record.specs.ValueCalls.{SpellsNew, bringing};
@@ -23,7 +24,8 @@ use oa_variant::Variant;
 use oa_wire_variant::{WireFault, read_variant};
 use std::alloc::Global;
 
-/// Returns the tag of a body, which is the u32 at its offset 0, or 0 if the body has fewer than 8 bytes.
+/// Returns the tag of a body, which is the u32 at its offset 0, or 0 if the body has fewer than 8
+/// bytes.
 pub fn tag_of(body: &[u8]) -> u32
     ensures { result ≡ tag_at body.now }
 {
@@ -34,7 +36,8 @@ pub fn tag_of(body: &[u8]) -> u32
     }
 }
 
-/// Checks one field. A type outside the profile is no error here; `Stub` if the field is broken, `Memory` if an allocation fails.
+/// Checks one field. A type outside the profile is no error here; `Stub` if the field is broken,
+/// `Memory` if an allocation fails.
 fn unbroken(alloc: Global, field: &[u8]) -> Result<(), RecordFault>
     ensures { TestsField field.now result }
 {
@@ -45,7 +48,7 @@ fn unbroken(alloc: Global, field: &[u8]) -> Result<(), RecordFault>
     }
 }
 
-/// Checks each field as `unbroken` does and returns the first error.
+/// Checks each field as `unbroken` does. Err: the first error.
 fn sound(alloc: Global, fields: &[&[u8]]) -> Result<(), RecordFault>
     ensures { TestsFields (map (λ f. f.now) fields.now) result }
 {
@@ -55,7 +58,8 @@ fn sound(alloc: Global, fields: &[&[u8]]) -> Result<(), RecordFault>
     Ok(())
 }
 
-/// Decodes all fields. `BadVarType` contains the position of the field, counted from 0.
+/// Decodes all fields. Errors: `Stub` if some field is broken; `BadVarType` with the position of
+/// the first field of a type outside the profile, counted from 0; `Memory`.
 fn values(alloc: Global, fields: &[&[u8]]) -> Result<Vec<Variant>, RecordFault>
     requires { length fields.now ≤ max_arguments + 1 }
     ensures judged { AnswersFields (λ v. v.items) (map (λ f. f.now) fields.now) result }
@@ -77,7 +81,7 @@ fn values(alloc: Global, fields: &[&[u8]]) -> Result<Vec<Variant>, RecordFault>
     Ok(values)
 }
 
-/// Decodes the arguments of a call.
+/// Decodes the arguments of a call. Errors are those of `values`.
 fn called(alloc: Global, call: RawCall<'_>) -> Result<Call, RecordFault>
     ensures judged { AnswersFields (λ q. q.arguments) call.entry.fields result }
     ensures is { IfOk result (λ q. q ≡ call_of call.entry q.arguments) }
@@ -86,7 +90,8 @@ fn called(alloc: Global, call: RawCall<'_>) -> Result<Call, RecordFault>
     Ok(call.with(values))
 }
 
-/// Returns the bytes of the arguments' fields followed by those of an element's new value. Err: `Memory`.
+/// Returns the bytes of the arguments' fields followed by those of an element's new value. Err:
+/// `Memory`.
 fn with_value<'a>(
     alloc: Global,
     call: &RawCall<'a>,
@@ -101,8 +106,8 @@ fn with_value<'a>(
     Ok(fields)
 }
 
-/// Drops the index of the error of a PUTELEM with `count` arguments if it is that of the new value, which follows the arguments and has no
-/// index in rgvarg.
+/// Drops the index of the error of a PUTELEM with `count` arguments if it is that of the new value.
+/// This follows the arguments and has no index in rgvarg.
 fn without_index(count: usize, fault: RecordFault) -> RecordFault
     ensures { result ≡ put_fault count fault }
 {
@@ -114,7 +119,8 @@ fn without_index(count: usize, fault: RecordFault) -> RecordFault
     }
 }
 
-/// Decodes the arguments and the new value of a PUTELEM.
+/// Decodes the arguments and the new value of a PUTELEM. Errors are those of `values`, without an
+/// index for the new value.
 fn put_element(
     alloc: Global,
     call: RawCall<'_>,
@@ -139,7 +145,8 @@ fn put_element(
     })
 }
 
-/// Decodes the values in the parts of a body and returns the request.
+/// Decodes the values in the parts of a body and returns the request. Errors are those of
+/// `read_request`.
 fn request(alloc: Global, parts: Parts<'_>) -> Result<Request, RecordFault>
     ensures { Requests (shown parts.entry) result }
 {
@@ -161,15 +168,18 @@ fn request(alloc: Global, parts: Parts<'_>) -> Result<Request, RecordFault>
     }
 }
 
-/// Decodes a request: the tag at offset 0, which `tag_of` reads, the opcode at 4, the fields from 8 to the end (this project's choice).
+/// Decodes a request: the tag at offset 0, which `tag_of` reads, the opcode at 4, the fields from 8
+/// to the end (this project's choice).
 ///
 /// Errors:
-/// - `Stub`: the body has the layout of no request; it has more than `MAX_REQUEST_BYTES`, more than 32 arguments or named arguments, no
-///   name or more than 17, or more than 16 indices; or the field of some value is broken.
-/// - `BadVarType`: otherwise, some value has a type outside the profile. It contains the index of the first of these in rgvarg, or None if
-///   it is the new value of an element.
-/// - `Memory`: an allocation fails. Only an opcode whose bodies need memory to be decoded can fail so, and only in a body of at most
-///   `MAX_REQUEST_BYTES` and at least 64 bytes, or 56 for a look-up of names.
+/// - `Stub`: the body has the layout of no request, or the field of some value is broken. It has
+///   more than `MAX_REQUEST_BYTES`, more than 32 arguments or named arguments, no name or more than
+///   17, or more than 16 indices.
+/// - `BadVarType`: otherwise, some value has a type outside the profile. It contains the index of
+///   the first of these in rgvarg, or None if it is the new value of an element.
+/// - `Memory`: an allocation fails. Only an opcode whose bodies need memory to be decoded can fail
+///   so. The body then has at most `MAX_REQUEST_BYTES` and at least 64 bytes, or 56 for a look-up
+///   of names.
 pub fn read_request(alloc: Global, body: &[u8]) -> Result<Request, RecordFault>
     ensures { IsRequest body.now result }
 {
@@ -197,8 +207,9 @@ fn value_call(alloc: Global, parts: ValueParts<'_>) -> Option<ValueCall>
     }
 }
 
-/// Decodes an INVOKE without arguments or with a property's new value only. It allocates no lists. Returns None for any other body, for one
-/// that `read_request` refuses, and if the allocation of the value fails; the caller then calls `read_request`.
+/// Decodes an INVOKE without arguments or with a property's new value only. It allocates no lists.
+/// Returns None for any other body, for one that `read_request` refuses, and if the allocation of
+/// the value fails; the caller then calls `read_request`.
 pub fn read_value_call(alloc: Global, body: &[u8]) -> Option<ValueCall>
     ensures { IfSome result (λ call. Asks body.now (ByCall Invoke (bringing call.head call.value))) }
 {

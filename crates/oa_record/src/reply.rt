@@ -1,13 +1,14 @@
 //! Replies.
 ghost use Rattle.std.specs.Prelude.{◌≡◌, ◌≤◌, [], length};
-ghost use Rattle.oa_record.specs.Replies.{max_fields_bytes, reply_head};
+ghost use Rattle.oa_record.specs.Replies.{max_fields_bytes};
+ghost use Rattle.oa_record.specs.promise.Replies.{reply_head};
 
 use oa_model::HResult;
 use std::alloc::Global;
 use std::marker::Model;
 
-/// A reply: the tag of its request, a code, the index in rgvarg of the argument that the code is about, and at most 4,294,967,275 bytes of
-/// fields.
+/// A reply: the tag of its request, a code, the index in rgvarg of the argument that the code is
+/// about, and the fields. These have at most 4,294,967,275 bytes.
 #[derive(Debug, Drop)]
 pub struct Reply {
     tag: u32,
@@ -18,7 +19,8 @@ pub struct Reply {
 
 impl Model for Reply {
     ghost use Rattle.std.specs.Prelude.{◌≤◌, length};
-    ghost use Rattle.oa_record.specs.Replies.{ReplyValue, max_fields_bytes};
+    ghost use Rattle.oa_record.specs.promise.Replies.{ReplyValue};
+    ghost use Rattle.oa_record.specs.Replies.{max_fields_bytes};
 
     ghost Value = { ReplyValue };
 
@@ -28,7 +30,9 @@ impl Model for Reply {
 }
 
 impl Reply {
-    /// Makes a reply with these fields, at most 4,294,967,275 bytes.
+    /// Makes a reply with the tag of its request, a code, and these fields, at most 4,294,967,275
+    /// bytes. `index` is that of the argument in rgvarg that the code is about; None if it is about
+    /// none.
     pub fn new(tag: u32, code: HResult, index: Option<u32>, body: Vec<u8>) -> Reply
         requires { length body.items ≤ max_fields_bytes }
         ensures { result ≡ record { tag = tag; code = code; index = index; body = body.items } }
@@ -41,7 +45,8 @@ impl Reply {
         }
     }
 
-    /// Makes a reply without fields, such as a refusal. Allocates nothing.
+    /// Makes a reply without fields, such as a refusal; tag, code and index are as of `new`.
+    /// Allocates nothing.
     pub fn bare(alloc: Global, tag: u32, code: HResult, index: Option<u32>) -> Reply
         ensures { result ≡ record { tag = tag; code = code; index = index; body = [] } }
     {
@@ -62,7 +67,8 @@ impl Reply {
         self.code
     }
 
-    /// Returns the index in rgvarg of the argument that the code is about.
+    /// Returns the index in rgvarg of the argument that the code is about; None if it is about
+    /// none.
     pub fn index(&self) -> Option<u32>
         ensures { result ≡ self.now.index }
     {
@@ -77,8 +83,9 @@ impl Reply {
         self.body.as_slice()
     }
 
-    /// Returns the 16 bytes before the fields: tag, code, index (0xFFFFFFFF for None), reserved, each a u32.
-    #[tactic(auto, unfolding(crate::specs::Replies::word))]
+    /// Returns the 16 bytes before the fields: tag, code, index (0xFFFFFFFF for None), reserved,
+    /// each a u32.
+    #[tactic(auto, unfolding(crate::specs::promise::Replies::word))]
     pub fn head(&self) -> [u8; 16]
         ensures { result ≡ reply_head self.now }
     {

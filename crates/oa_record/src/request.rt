@@ -61,7 +61,8 @@ pub struct GetIds {
     pub names: Names,
 }
 
-/// The fields at the start of a call's head: the object, the member and how it is called (IDispatch::Invoke, MS-OAUT section 3.1.4.4).
+/// The fields at the start of a call's head: the object, the member and how it is called
+/// (IDispatch::Invoke, MS-OAUT section 3.1.4.4).
 #[derive(Clone, Copy, Debug, PartialEq, Eq)]
 pub struct CallHead {
     /// The number of the object.
@@ -74,24 +75,26 @@ pub struct CallHead {
     pub riid: Uuid,
     /// The locale; any value is allowed.
     pub lcid: u32,
-    /// How the member is called: 1 calls a method, 2 reads a property, 4 puts a property, 8 puts a property by reference.
+    /// How the member is called: 1 calls a method, 2 reads a property, 4 puts a property, 8 puts a
+    /// property by reference.
     pub flags: u16,
 }
 
-/// A call of a member (IDispatch::Invoke, MS-OAUT section 3.1.4.4). Requests on elements, bounds and locks of an array name its property by
-/// a call.
+/// A call of a member (IDispatch::Invoke, MS-OAUT section 3.1.4.4). Requests on elements, bounds
+/// and locks of an array name its property by a call.
 #[derive(Debug, Drop)]
 pub struct Call {
     /// The object, the member and how it is called.
     pub head: CallHead,
-    /// The DISPIDs of the named arguments, which come first in `arguments`. A body may have more DISPIDs than arguments.
+    /// The DISPIDs of the named arguments, which come first in `arguments`. A body may have more
+    /// DISPIDs than arguments.
     pub named: Dispids,
     /// The arguments.
     pub arguments: Arguments,
 }
 
-/// An INVOKE without arguments, or with one argument that is named DISPID_PROPERTYPUT (MS-OAUT section 2.2.32.1). It needs no lists, so
-/// that no memory is allocated for them.
+/// An INVOKE without arguments, or with one argument that is named DISPID_PROPERTYPUT (MS-OAUT
+/// section 2.2.32.1). It needs no lists, so that no memory is allocated for them.
 #[derive(Debug, Drop)]
 pub struct ValueCall {
     /// The object, the member and how it is called.

@@ -1,14 +1,14 @@
 -- Behind an end nothing is held.
 use Rattle.std.proofs.Common.{◌≡◌, ℕ, Bool, true, false, true≢false, List, [], ◌∷◌, length, refl, sym, ap, ◌∙◌, arith}
 use Rattle.oa_disk.specs.declared.disk.Disk.{Ghosts}
-use Rattle.oa_record.specs.Replies.{ReplyValue}
-use Rattle.oa_share.specs.Marks.{Now}
+use Rattle.oa_record.specs.promise.Replies.{ReplyValue}
+use Rattle.oa_mux.specs.promise.Marks.{Flush}
 use Rattle.oa_store.specs.declared.store.Store.{Store}
-use Rattle.oa_decision.specs.States.{State}
-use Rattle.oa_server.specs.Desks.{DeskIsReady}
-use Rattle.oa_server.specs.SharedTalks.{AsksIn}
+use Rattle.oa_decision.specs.promise.States.{State}
+use Rattle.oa_server.specs.SharedGroups.{DeskIsReady}
+use Rattle.oa_server.specs.promise.SharedSessions.{AsksIn}
 use Rattle.oa_server.specs.Talks.{InputEnds}
-use Rattle.oa_server.specs.declared.desk.Desk.{Desk}
+use Rattle.oa_server.specs.declared.desk.SharedGroup.{SharedGroup}
 use Rattle.oa_server.specs.declared.open_group.OpenGroup.{OpenGroup}
 use Rattle.oa_server.specs.declared.storage.Storage.{Storage}
 use Rattle.oa_server.specs.declared.storage.Storage.TheVariants.{Disk, Memory}
@@ -29,7 +29,8 @@ module _ {D : Type 0} {g : Ghosts D} (now : Store D g) (before between : State) 
   none_held (Disk store) one two held ended = ended.none
 
   -- of many
-  pub none_told_of : (a : Storage D g) (one two : Desk) (frames : List (ℕ × List ℕ)) → AsksIn a before one Now frames (Disk now) between two → DeskIsReady now two → two.open_group.replies.items ≡ []
+  pub none_told_of : (a : Storage D g) (one two : SharedGroup) (frames : List (ℕ × List ℕ)) → AsksIn a before one Flush frames (Disk now) between two
+      → DeskIsReady now two → two.open_group.replies.items ≡ []
   none_told_of (Memory disk) one two frames asked ready = absurd (true≢false (ap (λ (s : Storage D g). is_disk s) asked.0))
   none_told_of (Disk store) one two frames asked ready =
       no_replies two.open_group.replies.items (sym (told_length two.askers.items two.open_group.replies.items ready.each) ∙ ap (λ l. length l) asked.taken.1)

@@ -3,31 +3,32 @@ use Rattle.std.proofs.Common.{rules, ◌≡◌, inl, inr, ℕ, ◌≤◌, true, 
 use Rattle.std.proofs.Common.{◌∙◌, subst}
 use Rattle.std.proofs.lemmas.List.{append-nil, length-map, map_push, nil_from_length, same_from_push}
 use Rattle.oa_disk.specs.declared.disk.Disk.{Ghosts}
-use Rattle.oa_groups.specs.Groupings.{Grouping, IsEnded, IsHeld, IsSettled}
-use Rattle.oa_groups.specs.Groups.{NoneAlone, events_in, fills, is_full}
-use Rattle.oa_groups.specs.Runs.{TurnsOver}
-use Rattle.oa_groups.specs.Turns.{Exchange, body_of, exchange, reply_of}
-use Rattle.oa_groups.proofs.Entries.{events_push, run_append}
-use Rattle.oa_record.specs.Replacement.{is_replacement}
-use Rattle.oa_record.specs.Replies.{ReplyValue}
+use Rattle.oa_group_commit.specs.promise.Groups.{GroupState, IsBuffered, IsEnded, IsGroupCommitted, HasNoBarrier}
+use Rattle.oa_group_commit.specs.promise.Groups.{events_in, fills, is_full, Trace, Exchange, body_of, exchange}
+use Rattle.oa_group_commit.specs.promise.Groups.{reply_of}
+use Rattle.oa_group_commit.proofs.Entries.{events_push, run_append}
+use Rattle.oa_record.specs.promise.Replacement.{is_replacement}
+use Rattle.oa_record.specs.promise.Replies.{ReplyValue}
 use Rattle.oa_store.specs.declared.store.Store.{Store}
 use Rattle.oa_server.specs.OpenGroups.{IsDueFor, grouping}
-use Rattle.oa_server.specs.Requests.{requests}
-use Rattle.oa_decision.specs.States.{State}
-use Rattle.oa_server.specs.Talks.{IsWholeGroup, IsNoGroupYet}
+use Rattle.oa_server.specs.promise.ServerMachine.{server_machine}
+use Rattle.oa_decision.specs.promise.States.{State}
+use Rattle.oa_server.specs.promise.Storages.{IsWholeGroup, IsNoGroupYet}
 
 -- these requests are in the open group, and are no group yet
-pub record Holding {D : Type 0} {g : Ghosts D} (size : ℕ) (first : State) (now : Store D g) (state : State) (pending : List ReplyValue) (events : List ℕ) (bodies : List (List ℕ)) : Type 0 where
+pub record Holding {D : Type 0} {g : Ghosts D} (size : ℕ) (first : State) (now : Store D g) (state : State) (pending : List ReplyValue) (events : List ℕ)
+    (bodies : List (List ℕ)) : Type 0 where
   pub held : List (Exchange ReplyValue)
   pub bodies_are : bodies ≡ map body_of held
-  pub plain : NoneAlone is_replacement bodies
-  pub run : TurnsOver requests first held state
+  pub plain : HasNoBarrier is_replacement bodies
+  pub run : Trace server_machine first held state
   pub pending_are : pending ≡ map reply_of held
   pub events_are : events ≡ events_in held
   pub short : is_full size held ≡ false
   pub going : now.stopped ≡ false
 
-plain_more : (bodies : List (List ℕ)) (body : List ℕ) → NoneAlone is_replacement bodies → is_replacement body ≡ false → NoneAlone is_replacement (bodies ++ body ∷ [])
+plain_more : (bodies : List (List ℕ)) (body : List ℕ) → HasNoBarrier is_replacement bodies → is_replacement body ≡ false
+    → HasNoBarrier is_replacement (bodies ++ body ∷ [])
 plain_more [] body none plain = (plain, tt)
 plain_more (first ∷ bodies) body none plain = (none.0, plain_more bodies body none.1 plain)
 
@@ -39,13 +40,24 @@ fills_none size some = search (some, rules)
 full_is : (size : ℕ) (pending : List ReplyValue) (events : List ℕ) (held : List (Exchange ReplyValue)) → pending ≡ map reply_of held → events ≡ events_in held
     → fills size (length pending) (length events) ≡ is_full size held
 full_is size pending events held replies bytes =
-    ap (λ (n : ℕ). fills size n (length events)) (ap (λ (l : List ReplyValue). length l) replies ∙ length-map held reply_of) ∙ ap (λ (l : List ℕ). fills size (length held) (length l)) bytes
+    ap (λ (n : ℕ). fills size n (length events)) (ap (λ (l : List ReplyValue). length l) replies ∙ length-map held reply_of)
+    ∙ ap (λ (l : List ℕ). fills size (length held) (length l)) bytes
 
 module _ {D : Type 0} {g : Ghosts D} (size : ℕ) where
   pub holds_none : (now : Store D g) (state : State) → 1 ≤ size → now.stopped ≡ false → Holding size state now state [] [] []
-  holds_none now state some going = record { held = []; bodies_are = refl; plain = tt; run = refl; pending_are = refl; events_are = refl; short = fills_none size some; going = going }
+  holds_none now state some going = record {
+    held = [];
+    bodies_are = refl;
+    plain = tt;
+    run = refl;
+    pending_are = refl;
+    events_are = refl;
+    short = fills_none size some;
+    going = going;
+  }
 
-  module _ (first : State) (old : Store D g) (before : State) (pending : List ReplyValue) (events : List ℕ) (bodies : List (List ℕ)) (was : Holding size first old before pending events bodies) where
+  module _ (first : State) (old : Store D g) (before : State) (pending : List ReplyValue) (events : List ℕ) (bodies : List (List ℕ))
+      (was : Holding size first old before pending events bodies) where
     module _ (body : List ℕ) (reply : ReplyValue) (event : List ℕ) where
       abbrev pub asked : Exchange ReplyValue
       asked = exchange body reply event
@@ -56,17 +68,20 @@ module _ {D : Type 0} {g : Ghosts D} (size : ℕ) where
       more_bodies : bodies ++ body ∷ [] ≡ map body_of more
       more_bodies = ap (λ (l : List (List ℕ)). l ++ body ∷ []) was.bodies_are ∙ sym (map_push body_of was.held asked)
 
-      more_run : (after : State) → requests.Turn asked before after → TurnsOver requests first more after
-      more_run after turn = run_append requests first was.held before (asked ∷ []) after was.run (after, turn, refl)
+      more_run : (after : State) → server_machine.Turn asked before after → Trace server_machine first more after
+      more_run after turn = run_append server_machine first was.held before (asked ∷ []) after was.run (after, turn, refl)
 
-      more_pending : (now : Grouping State ReplyValue D g) → IsHeld requests asked (grouping old before pending events) now → now.pending ≡ map reply_of more
+      more_pending : (now : GroupState State ReplyValue D g) → IsBuffered server_machine asked (grouping old before pending events) now
+          → now.pending ≡ map reply_of more
       more_pending now one = one.pending ∙ ap (λ (l : List ReplyValue). l ++ reply ∷ []) was.pending_are ∙ sym (map_push reply_of was.held asked)
 
-      more_events : (now : Grouping State ReplyValue D g) → IsHeld requests asked (grouping old before pending events) now → now.events ≡ events_in more
+      more_events : (now : GroupState State ReplyValue D g) → IsBuffered server_machine asked (grouping old before pending events) now
+          → now.events ≡ events_in more
       more_events now one = one.events ∙ ap (λ (l : List ℕ). l ++ event) was.events_are ∙ sym (events_push was.held asked)
 
       -- the open group has one request more
-      pub holds_more : (now : Grouping State ReplyValue D g) → IsHeld requests asked (grouping old before pending events) now → fills size (length now.pending) (length now.events) ≡ false
+      pub holds_more : (now : GroupState State ReplyValue D g) → IsBuffered server_machine asked (grouping old before pending events) now
+          → fills size (length now.pending) (length now.events) ≡ false
           → Holding size first now.store now.state now.pending now.events (bodies ++ body ∷ [])
       holds_more now one small = record {
         held = more;
@@ -84,20 +99,27 @@ module _ {D : Type 0} {g : Ghosts D} (size : ℕ) where
       not_before front last is = subst (λ (l : List (Exchange ReplyValue)). is_full size l ≡ false) (same_from_push was.held front asked last is).0 was.short
 
       -- it fills the group
-      pub group_filled : (mid new : Grouping State ReplyValue D g) (told : List ReplyValue) → IsHeld requests asked (grouping old before pending events) mid → fills size (length mid.pending) (length mid.events) ≡ true
-          → IsSettled requests told mid new → IsWholeGroup size new.store first (bodies ++ body ∷ []) told new.state
+      pub group_filled : (mid new : GroupState State ReplyValue D g) (told : List ReplyValue)
+          → IsBuffered server_machine asked (grouping old before pending events) mid → fills size (length mid.pending) (length mid.events) ≡ true
+          → IsGroupCommitted server_machine told mid new → IsWholeGroup size new.store first (bodies ++ body ∷ []) told new.state
       group_filled mid new told one full settled = record {
         group = more;
         bodies_are = more_bodies;
         plain = plain_more bodies body was.plain one.plain;
-        run = subst (λ (s : State). TurnsOver requests first more s) (sym settled.state) (more_run mid.state one.turn);
+        run = subst (λ (s : State). Trace server_machine first more s) (sym settled.state) (more_run mid.state one.turn);
         short = not_before;
         ends = inl (sym (full_is size mid.pending mid.events more (more_pending mid one) (more_events mid one)) ∙ full);
-        whole = λ going. (sym (full_is size mid.pending mid.events more (more_pending mid one) (more_events mid one)) ∙ full, (settled.well going).0 ∙ more_pending mid one);
+        whole =
+            λ going. (
+              sym (full_is size mid.pending mid.events more (more_pending mid one) (more_events mid one)) ∙ full,
+              (settled.well going).0
+                  ∙ more_pending mid one,
+            );
       }
 
       -- the checkpoint before it fails
-      pub group_faulted : (new : Grouping State ReplyValue D g) (told : List ReplyValue) → requests.Turn asked before new.state → is_replacement body ≡ false → IsDueFor old before events body → event ≡ [] → new.store.stopped ≡ true
+      pub group_faulted : (new : GroupState State ReplyValue D g) (told : List ReplyValue) → server_machine.Turn asked before new.state
+          → is_replacement body ≡ false → IsDueFor old before events body → event ≡ [] → new.store.stopped ≡ true
           → IsWholeGroup size new.store first (bodies ++ body ∷ []) told new.state
       group_faulted new told turn plain due none stopped = record {
         group = more;
@@ -118,12 +140,13 @@ module _ {D : Type 0} {g : Ghosts D} (size : ℕ) where
       }
 
     -- the input ends
-    pub rest_ends : (new : Grouping State ReplyValue D g) (told : List ReplyValue) → IsEnded requests told (grouping old before pending events) new → IsNoGroupYet size new.store first bodies told new.state
+    pub rest_ends : (new : GroupState State ReplyValue D g) (told : List ReplyValue) → IsEnded server_machine told (grouping old before pending events) new
+        → IsNoGroupYet size new.store first bodies told new.state
     rest_ends new told (inl idle) = record {
       held = was.held;
       bodies_are = was.bodies_are;
       plain = was.plain;
-      run = subst (λ (s : State). TurnsOver requests first was.held s) (sym idle.state) was.run;
+      run = subst (λ (s : State). Trace server_machine first was.held s) (sym idle.state) was.run;
       short = was.short;
       told_are = λ going. idle.nothing ∙ sym idle.none ∙ was.pending_are;
     }
@@ -131,7 +154,7 @@ module _ {D : Type 0} {g : Ghosts D} (size : ℕ) where
       held = was.held;
       bodies_are = was.bodies_are;
       plain = was.plain;
-      run = subst (λ (s : State). TurnsOver requests first was.held s) (sym last.settled.state) was.run;
+      run = subst (λ (s : State). Trace server_machine first was.held s) (sym last.settled.state) was.run;
       short = was.short;
       told_are = λ going. (last.settled.well going).0 ∙ was.pending_are;
     }

@@ -1,40 +1,41 @@
 -- What an opening answers, where a stop has left one of two states.
 use Rattle.std.proofs.Common.{true, ◌≤◌, ◌≡◌, ◌≢◌, ◌⊎◌, ⊎_elim, ℕ, List, Some, length, inl, inr, refl, sym, ◌∙◌, subst, arith}
-use Rattle.oa_fits.proofs.Kept.{unlocked_fits}
-use Rattle.oa_fits.specs.Fits.{fits}
-use Rattle.oa_groups.specs.Runs.{HoldsState}
-use Rattle.oa_canonical.specs.Canonical.{canonical}
-use Rattle.oa_idl.specs.Trees.{TreeValue}
+use Rattle.oa_compat.proofs.Kept.{unlocked_fits}
+use Rattle.oa_compat.specs.promise.Fits.{fits}
+use Rattle.oa_group_commit.specs.promise.Groups.{HoldsState}
+use Rattle.oa_printer.specs.promise.Canonical.{canonical}
+use Rattle.oa_idl.specs.promise.Trees.{TreeValue}
 use Rattle.oa_image.proofs.TablesWithImages.{same_table}
-use Rattle.oa_journal.specs.Bank.{HasHeader, HasLibrary, from_place}
+use Rattle.oa_journal.specs.promise.Bank.{HasHeader, HasLibrary, from_place, body_bytes, format_of}
 use Rattle.oa_journal.proofs.Banks.{bank_header}
 use Rattle.oa_journal.proofs.Damages.{bank_library, one_library}
-use Rattle.oa_journal.specs.Shapes.{body_bytes, format_of}
 use Rattle.oa_journal.proofs.Unique.{one_head}
-use Rattle.oa_journal.specs.declared.shape.Shape.{Shape}
-use Rattle.oa_journal.specs.declared.shape.Shape.TheVariants.{One, Two}
-use Rattle.oa_store.specs.Faults.{SpeaksOfContents, RefusalSays}
+use Rattle.oa_journal.specs.declared.shape.BankFormat.{BankFormat}
+use Rattle.oa_journal.specs.declared.shape.BankFormat.TheVariants.{One, Two}
+use Rattle.oa_store.specs.promise.Faults.{SpeaksOfContents, RefusalSays}
 use Rattle.oa_store.proofs.OneStore.{one_store}
 use Rattle.oa_store.proofs.Opened.{of_wanted}
-use Rattle.oa_store.specs.Stores.{IsFormatted, IsNewStore, IsStoreAt, IsStoreIn, body_place, head_place}
+use Rattle.oa_store.specs.promise.Stores.{IsFormatted, IsStoreAt, IsStoreIn, body_place, head_place}
+use Rattle.oa_store.specs.Stores.{IsNewStore}
 use Rattle.oa_store.specs.declared.fault.OpenFault.{OpenFault}
 use Rattle.oa_store.specs.declared.fault.OpenFault.TheVariants.{NotAStore, OldFormat, LibraryDiffers, Damaged, Device, Memory}
-use Rattle.oa_table.specs.Tables.{TableValue}
-use Rattle.oa_typelib.specs.Checked.{IsChecked}
-use Rattle.oa_turn.specs.Beginnings.{CanBegin, CanServe}
-use Rattle.oa_server.specs.Openings.{FindsState, FindsOneOf, HoldsOther, RefusesOneOf}
-use Rattle.oa_turn.specs.Events.{held_of}
-use Rattle.oa_server.specs.Requests.{requests, text_of_library}
-use Rattle.oa_decision.specs.States.{State}
+use Rattle.oa_table.specs.promise.Tables.{TableValue}
+use Rattle.oa_typelib.specs.promise.Checked.{IsChecked}
+use Rattle.oa_turn.specs.promise.Beginnings.{CanBegin, CanServe}
+use Rattle.oa_server.specs.promise.ServerMachine.{FindsState, FindsOneOf, HoldsOther, RefusesOneOf, server_machine}
+use Rattle.oa_server.specs.promise.ServerMachine.{text_of_library}
+use Rattle.oa_turn.specs.promise.Events.{held_of}
+use Rattle.oa_decision.specs.promise.States.{State}
 use Rattle.oa_server.proofs.FoundIsKept.{one_size}
 
 -- an open store is one in format 2
-pub is_two : (shape : Shape) → format_of shape ≡ 2 → shape ≡ Two (body_bytes shape)
+pub is_two : (shape : BankFormat) → format_of shape ≡ 2 → shape ≡ Two (body_bytes shape)
 is_two One is = absurd cc
 is_two (Two size) is = refl
 
 -- its closed gate stands on the disk
-pub gate_within : (shape : Shape) (chosen gate : ℕ) (text contents : List ℕ) (table : TableValue) → format_of shape ≡ 2 → IsStoreAt shape chosen gate text table contents → gate ≤ length contents
+pub gate_within : (shape : BankFormat) (chosen gate : ℕ) (text contents : List ℕ) (table : TableValue) → format_of shape ≡ 2
+    → IsStoreAt shape chosen gate text table contents → gate ≤ length contents
 gate_within One chosen gate text contents table is store = absurd cc
 gate_within (Two size) chosen gate text contents table is store =
     let inside = store.bank.parts.inside in
@@ -42,13 +43,15 @@ gate_within (Two size) chosen gate text contents table is store =
     omega (arith, inside, room)
 
 -- what the contents are a store of is what they hold of a state
-found_state : (contents : List ℕ) (bank : ℕ) (library : TreeValue) (table : TableValue) (state : State) → IsStoreIn (Two bank) contents (canonical library) table → HoldsState requests state contents
+found_state : (contents : List ℕ) (bank : ℕ) (library : TreeValue) (table : TableValue) (state : State)
+    → IsStoreIn (Two bank) contents (canonical library) table → HoldsState server_machine state contents
     → FindsState bank library table state
 found_state contents bank library table state store holds =
     let same = one_store contents (canonical library) (text_of_library state) table (held_of state) (Two bank, store) (Two state.bank, holds) in
     record { bank_is = one_size bank state.bank same.shape_same; text = same.library_same; table_is = same.table_same }
 
-pub finds_one : (image : List ℕ → Type 0) (contents : List ℕ) → image contents → (bank : ℕ) (library : TreeValue) (table : TableValue) → IsStoreIn (Two bank) contents (canonical library) table → FindsOneOf image bank library table
+pub finds_one : (image : List ℕ → Type 0) (contents : List ℕ) → image contents → (bank : ℕ) (library : TreeValue) (table : TableValue)
+    → IsStoreIn (Two bank) contents (canonical library) table → FindsOneOf image bank library table
 finds_one image contents is bank library table store one two each = ⊎_elim
     (λ first. inl (found_state contents bank library table one store first))
     (λ second. inr (found_state contents bank library table two store second))
@@ -56,23 +59,29 @@ finds_one image contents is bank library table store one two each = ⊎_elim
 
 -- ---- the contents hold another library
 -- a store's bank is the one that the selector names
-its_bank : (shape : Shape) (contents : List ℕ) (chosen number gate : ℕ) (text : List ℕ) (table : TableValue) → IsFormatted chosen contents → IsStoreAt shape number gate text table contents → IsStoreAt shape chosen gate text table contents
-its_bank shape contents chosen number gate text table head is = subst (λ (k : ℕ). IsStoreAt shape k gate text table contents) (sym is.head.selected ∙ head.selected) is
+its_bank : (shape : BankFormat) (contents : List ℕ) (chosen number gate : ℕ) (text : List ℕ) (table : TableValue) → IsFormatted chosen contents
+    → IsStoreAt shape number gate text table contents → IsStoreAt shape chosen gate text table contents
+its_bank shape contents chosen number gate text table head is = subst (λ (k : ℕ). IsStoreAt shape k gate text table contents)
+    (sym is.head.selected ∙ head.selected) is
 
 -- a head that a store's bank has, in whichever format, is that of the store
-its_shape : (shape other : Shape) (contents : List ℕ) (chosen gate l s : ℕ) (text : List ℕ) (table : TableValue) → HasHeader other (from_place (head_place chosen) contents) l s → IsStoreAt shape chosen gate text table contents
+its_shape : (shape other : BankFormat) (contents : List ℕ) (chosen gate l s : ℕ) (text : List ℕ) (table : TableValue)
+    → HasHeader other (from_place (head_place chosen) contents) l s → IsStoreAt shape chosen gate text table contents
     → shape ≡ other
 its_shape shape other contents chosen gate l s text table has is =
     let head = from_place (head_place chosen) contents in
-    (one_head head shape (length text) _ other l s (bank_header shape head (from_place (body_place shape chosen) contents) text table gate is.bank) has).shape_same
+    (one_head head shape (length text) _ other l s (bank_header shape head (from_place (body_place shape chosen) contents) text table gate is.bank)
+    has).shape_same
 
-module _ (contents : List ℕ) (size : ℕ) (long : length contents ≡ size) (text : List ℕ) (bank : ℕ) (other : List ℕ) (table : TableValue) (is : IsStoreIn (Two bank) contents other table) where
+module _ (contents : List ℕ) (size : ℕ) (long : length contents ≡ size) (text : List ℕ) (bank : ℕ) (other : List ℕ) (table : TableValue)
+    (is : IsStoreIn (Two bank) contents other table) where
   -- a library with which the bank begins is its library
-  begins_with : (chosen : ℕ) (shape : Shape) → IsFormatted chosen contents → HasLibrary shape (from_place (head_place chosen) contents) (from_place (body_place shape chosen) contents) text → text ≡ other
+  begins_with : (chosen : ℕ) (shape : BankFormat) → IsFormatted chosen contents → HasLibrary shape (from_place (head_place chosen) contents)
+      (from_place (body_place shape chosen) contents) text → text ≡ other
   begins_with chosen shape head has =
       let store = its_bank (Two bank) contents chosen is.0 is.1 other table head is.2 in
       let same = its_shape (Two bank) shape contents chosen is.1 (length text) has.snapshot other table has.has store in
-      let here = subst (λ (s : Shape). IsStoreAt s chosen is.1 other table contents) same store in
+      let here = subst (λ (s : BankFormat). IsStoreAt s chosen is.1 other table contents) same store in
       let first = from_place (head_place chosen) contents in
       let body = from_place (body_place shape chosen) contents in
       one_library shape first body text other has (bank_library shape first body other table is.1 here.bank)
@@ -88,9 +97,15 @@ module _ (contents : List ℕ) (size : ℕ) (long : length contents ≡ size) (t
   told_of (Damaged place) r says = ⊎_elim
       (λ none.
       let store = its_bank (Two bank) contents none.chosen is.0 is.1 other table none.head is.2 in
-      absurd (none.none (Two bank) (length other) _ (record { room = store.room; has = bank_header (Two bank) (from_place (head_place none.chosen) contents) (from_place (body_place (Two bank) none.chosen) contents) other table is.1 store.bank })))
+      absurd (none.none (Two bank) (length other) _
+      (record {
+        room = store.room;
+        has = bank_header (Two bank) (from_place (head_place none.chosen) contents)
+            (from_place (body_place (Two bank) none.chosen) contents) other table is.1 store.bank;
+      })))
       (λ rest.
-      let begins = of_wanted rest.shape (from_place (head_place rest.chosen) contents) (from_place (body_place rest.shape rest.chosen) contents) text rest.begins in
+      let begins = of_wanted rest.shape (from_place (head_place rest.chosen) contents) (from_place (body_place rest.shape rest.chosen) contents) text
+      rest.begins in
       inr (begins_with rest.chosen rest.shape rest.head begins))
       says
   told_of (Device fault) r says = absurd r
@@ -101,16 +116,21 @@ differs_from : (library : TreeValue) (state : State) → canonical state.library
 differs_from library state never same = never (sym same)
 
 -- a refusal of the store's
-pub differs_told : (contents : List ℕ) (size : ℕ) → length contents ≡ size → (library : TreeValue) (fault : OpenFault) → RefusalSays (Some (canonical library)) size contents fault → (state : State) → HoldsOther contents library state → SpeaksOfContents fault
+pub differs_told : (contents : List ℕ) (size : ℕ) → length contents ≡ size → (library : TreeValue) (fault : OpenFault)
+    → RefusalSays (Some (canonical library)) size contents fault → (state : State) → HoldsOther contents library state → SpeaksOfContents fault
     → fault ≡ LibraryDiffers
-differs_told contents size long library fault says state other r = ⊎_elim (λ is. is) (λ same. absurd (differs_from library state other.1 same)) (told_of contents size long (canonical library) state.bank (text_of_library state) (held_of state) other.0 fault r says)
+differs_told contents size long library fault says state other r = ⊎_elim (λ is. is) (λ same. absurd (differs_from library state other.1 same))
+    (told_of contents size long (canonical library) state.bank (text_of_library state) (held_of state) other.0 fault r says)
 
 -- a table that no server of the library can begin with is one of it
-pub differs_unfit : (contents : List ℕ) (library : TreeValue) (bank : ℕ) (table : TableValue) → IsStoreIn (Two bank) contents (canonical library) table → (state : State) → HoldsOther contents library state → ⊥
-differs_unfit contents library bank table store state other = differs_from library state other.1 (found_state contents bank library table state store other.0).text
+pub differs_unfit : (contents : List ℕ) (library : TreeValue) (bank : ℕ) (table : TableValue) → IsStoreIn (Two bank) contents (canonical library) table
+    → (state : State) → HoldsOther contents library state → ⊥
+differs_unfit contents library bank table store state other =
+    differs_from library state other.1 (found_state contents bank library table state store other.0).text
 
 -- ---- a server can begin with what the contents hold
-module _ (same_library : (a b : TreeValue) → IsChecked a → IsChecked b → canonical a ≡ canonical b → a ≡ b) (library : TreeValue) (checked : IsChecked library) where
+module _ (same_library : (a b : TreeValue) → IsChecked a → IsChecked b → canonical a ≡ canonical b → a ≡ b) (library : TreeValue)
+    (checked : IsChecked library) where
   serves : (state : State) → CanBegin state → canonical library ≡ canonical state.library → CanServe state.bank library (held_of state)
   serves state begins text =
       let same : state.library ≡ library = same_library state.library library begins.checked checked (sym text) in
@@ -119,23 +139,29 @@ module _ (same_library : (a b : TreeValue) → IsChecked a → IsChecked b → c
         small = let image = same_table state.table in rw image begins.serves.small;
       }
 
-  pub can_begin : (contents : List ℕ) (bank : ℕ) (table : TableValue) → IsStoreIn (Two bank) contents (canonical library) table → (state : State) → CanBegin state → HoldsState requests state contents → CanServe bank library table
+  pub can_begin : (contents : List ℕ) (bank : ℕ) (table : TableValue) → IsStoreIn (Two bank) contents (canonical library) table → (state : State)
+      → CanBegin state → HoldsState server_machine state contents → CanServe bank library table
   can_begin contents bank table store state begins holds =
       let found = found_state contents bank library table state store holds in
       rw (found.bank_is, found.table_is) (serves state begins found.text)
 
-  pub refuses_unfit : (image : List ℕ → Type 0) (contents : List ℕ) → image contents → (bank : ℕ) (table : TableValue) → IsStoreIn (Two bank) contents (canonical library) table → (CanServe bank library table → ⊥) → (fault : OpenFault)
+  pub refuses_unfit : (image : List ℕ → Type 0) (contents : List ℕ) → image contents → (bank : ℕ) (table : TableValue)
+      → IsStoreIn (Two bank) contents (canonical library) table → (CanServe bank library table → ⊥) → (fault : OpenFault)
       → RefusesOneOf image contents library fault
   refuses_unfit image contents is bank table store cannot fault one two each first second = ⊎_elim
       (λ holds. absurd (cannot (can_begin contents bank table store one first holds)))
       (λ holds. absurd (cannot (can_begin contents bank table store two second holds)))
       (each contents is)
 
-  module _ (contents : List ℕ) (size : ℕ) (long : length contents ≡ size) (fault : OpenFault) (r : SpeaksOfContents fault) (says : RefusalSays (Some (canonical library)) size contents fault) (none : (table : TableValue) → IsNewStore contents (canonical library) table → ⊥) where
-    refuses_state : (state : State) → HoldsState requests state contents → (fault ≡ LibraryDiffers) × HoldsOther contents library state
+  module _ (contents : List ℕ) (size : ℕ) (long : length contents ≡ size) (fault : OpenFault) (r : SpeaksOfContents fault)
+      (says : RefusalSays (Some (canonical library)) size contents fault)
+      (none : (table : TableValue) → IsNewStore contents (canonical library) table → ⊥) where
+    refuses_state : (state : State) → HoldsState server_machine state contents → (fault ≡ LibraryDiffers) × HoldsOther contents library state
     refuses_state state holds =
-        let never : canonical state.library ≡ canonical library → ⊥ = λ same. none (held_of state) (state.bank, subst (λ (l : List ℕ). IsStoreIn (Two state.bank) contents l (held_of state)) same holds) in (
-          ⊎_elim (λ is. is) (λ same. absurd (never (sym same))) (told_of contents size long (canonical library) state.bank (text_of_library state) (held_of state) holds fault r says),
+        let never : canonical state.library ≡ canonical library → ⊥ =
+        λ same. none (held_of state) (state.bank, subst (λ (l : List ℕ). IsStoreIn (Two state.bank) contents l (held_of state)) same holds) in (
+          ⊎_elim (λ is. is) (λ same. absurd (never (sym same)))
+              (told_of contents size long (canonical library) state.bank (text_of_library state) (held_of state) holds fault r says),
           (holds, never),
         )
 
@@ -147,7 +173,7 @@ module _ (same_library : (a b : TreeValue) → IsChecked a → IsChecked b → c
 
 -- the text is the library's canonical one
 module _ (library : TreeValue) (text : List ℕ) (contents : List ℕ) (is : text ≡ canonical library) where
-  pub of_text : (shape : Shape) (table : TableValue) → IsStoreIn shape contents text table → IsStoreIn shape contents (canonical library) table
+  pub of_text : (shape : BankFormat) (table : TableValue) → IsStoreIn shape contents text table → IsStoreIn shape contents (canonical library) table
   of_text shape table store = subst (λ t. IsStoreIn shape contents t table) is store
 
   pub of_library : (table : TableValue) → IsNewStore contents (canonical library) table → IsNewStore contents text table

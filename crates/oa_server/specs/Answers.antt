@@ -1,25 +1,21 @@
--- The reply to one body over a store, and what a crash at any point in time of it leaves. (This project's choice.)
-use Rattle.std.specs.Prelude.{◌≡◌, ◌⊎◌, ℕ, ◌+◌, ◌*◌, ◌≤◌, IsTrue, true, false, List, [], ◌∷◌, map}
-use Rattle.oa_canonical.specs.Canonical.{canonical}
+-- Definitions for contracts and proofs, beside promise/ServerMachine.
+use Rattle.std.specs.Prelude.{◌≡◌, ◌⊎◌, ℕ, ◌+◌, ◌*◌, ◌≤◌, IsTrue, true, false, List, [], ◌∷◌}
 use Rattle.oa_disk.specs.declared.disk.Disk.{Ghosts}
-use Rattle.oa_groups.specs.Served.{IsServed}
-use Rattle.oa_store.specs.Writing.{CallsForOneCheckpoint, Goes}
-use Rattle.oa_groups.specs.Groupings.{IsAnsweredAlone, LeavesState}
-use Rattle.oa_groups.specs.Runs.{AllHoldState, HoldsState}
-use Rattle.oa_groups.specs.Turns.{exchange}
+use Rattle.oa_group_commit.specs.promise.Groups.{IsServed, IsBarrierAnswered, LeavesState, AllHoldState, HoldsState}
+use Rattle.oa_group_commit.specs.promise.Groups.{exchange}
+use Rattle.oa_store.specs.promise.Writing.{DeviceFrame}
 use Rattle.oa_server.specs.OpenGroups.{IsDueFor, grouping}
-use Rattle.oa_record.specs.Asks.{Asks}
-use Rattle.oa_record.specs.Replacement.{is_replacement}
-use Rattle.oa_record.specs.Replies.{ReplyValue}
+use Rattle.oa_record.specs.promise.Asks.{Asks}
+use Rattle.oa_record.specs.promise.Replacement.{is_replacement}
+use Rattle.oa_record.specs.promise.Replies.{ReplyValue}
 use Rattle.oa_record.specs.declared.request.Request.{Request}
-use Rattle.oa_store.specs.Calls.{checkpoint_calls}
+use Rattle.oa_store.specs.promise.Stores.{checkpoint_calls}
 use Rattle.oa_store.specs.declared.store.Store.{Store}
-use Rattle.oa_turn.specs.Events.{change_bytes, is_done}
-use Rattle.oa_server.specs.Requests.{failed, faulted, requests}
-use Rattle.oa_table.specs.Tables.{unlocked_table}
-use Rattle.oa_decision.specs.States.{State}
-use Rattle.oa_turn.specs.Steps.{outcome}
-use Rattle.oa_turn.specs.Turns.{Turn}
+use Rattle.oa_turn.specs.promise.Events.{change_bytes, is_done}
+use Rattle.oa_server.specs.promise.ServerMachine.{failed_reply, fault_reply, server_machine, CallsForLibrary}
+use Rattle.oa_decision.specs.promise.States.{State}
+use Rattle.oa_turn.specs.promise.Steps.{outcome}
+use Rattle.oa_turn.specs.promise.Turns.{Turn}
 
 -- the body's request makes no event
 abbrev pub MakesNoEvent : State → List ℕ → Type 0
@@ -33,32 +29,26 @@ CallsForOne {D} {g} old new before body =
     ⊎ (IsDueFor old before [] body
     × (g.moment new.disk ≤ g.moment old.disk + (2 * checkpoint_calls old.library.items before.table + 8)))
 
--- A body that replaces the library makes at most the calls of a checkpoint with that library.
-abbrev pub CallsForLibrary : {D : Type 0} {g : Ghosts D} → Store D g → Store D g → State → Type 0
-CallsForLibrary {D} {g} old new after =
-    IsTrue (g.is_honest old.disk)
-    → g.moment new.disk ≤ g.moment old.disk + 2 * checkpoint_calls (canonical after.library) after.table
-
 -- After a fault of the device, the reply is that the store has failed, and nothing is done. Before a fault, the body
 -- is answered by a turn, or a call of the device fails in it: then the reply reports that, and the state is the one
 -- after some turn of the body.
 pub record IsAnswered {D : Type 0} {g : Ghosts D} (old new : Store D g) (before after : State) (body : List ℕ)
     (reply : ReplyValue) : Type 0 where
   pub late : old.stopped ≡ true
-      → (reply ≡ failed body) × (after ≡ before) × (new.disk ≡ old.disk) × (new.stopped ≡ true)
+      → (reply ≡ failed_reply body) × (after ≡ before) × (new.disk ≡ old.disk) × (new.stopped ≡ true)
   pub going : old.stopped ≡ false → new.stopped ≡ false → Turn before body reply after
   pub doubt : old.stopped ≡ false → new.stopped ≡ true
-      → (reply ≡ faulted body) × ((due : ReplyValue) × Turn before body due after)
+      → (reply ≡ fault_reply body) × ((due : ReplyValue) × Turn before body due after)
   -- if it fails in a replacement, that turn is one that is done: the state has the new library
   pub replaced : old.stopped ≡ false → new.stopped ≡ true → is_replacement body ≡ true
       → (due : ReplyValue) × Turn before body due after × (is_done due ≡ true)
   -- at every point in time each image is a store of the library and the table before, or of those after
-  pub any_moment : old.stopped ≡ false → AllHoldState requests old before
-      → LeavesState old new (λ c. HoldsState requests before c ⊎ HoldsState requests after c)
+  pub any_moment : old.stopped ≡ false → AllHoldState server_machine old before
+      → LeavesState old new (λ c. HoldsState server_machine before c ⊎ HoldsState server_machine after c)
   -- and at the end, without a fault, of those after
-  pub each : old.stopped ≡ false → new.stopped ≡ false → AllHoldState requests old before
-      → AllHoldState requests new after
-  pub goes : Goes old new
+  pub each : old.stopped ≡ false → new.stopped ≡ false → AllHoldState server_machine old before
+      → AllHoldState server_machine new after
+  pub goes : DeviceFrame old new
   -- A body that makes no event makes no call of the device, so none fails; the same is true of a refused replacement
   -- of the library.
   pub quiet : old.stopped ≡ false → is_replacement body ≡ false → MakesNoEvent before body
@@ -69,24 +59,13 @@ pub record IsAnswered {D : Type 0} {g : Ghosts D} (old new : Store D g) (before 
       → CallsForOne old new before body
   pub library_calls : old.stopped ≡ false → is_replacement body ≡ true → CallsForLibrary old new after
   -- it is a group of one, with its points in time
-  pub served : old.stopped ≡ false → IsServed requests 1 old new before after (body ∷ []) (reply ∷ [])
-
--- What a turn of opcode 12 over a store leaves, whether it is acknowledged or in doubt.
-pub record ReplacesInStore {D : Type 0} {g : Ghosts D} (old new : Store D g) (before after : State) : Type 0 where
-  pub same : unlocked_table after.table ≡ unlocked_table before.table
-  -- a crash at any point in time leaves the old library or the new one, with the table
-  pub any_moment : AllHoldState requests old before
-      → LeavesState old new (λ c. HoldsState requests before c ⊎ HoldsState requests after c)
-  pub each : new.stopped ≡ false → AllHoldState requests old before → AllHoldState requests new after
-  pub calls : CallsForLibrary old new after
-  pub once : CallsForOneCheckpoint old new
-  pub goes : Goes old new
+  pub served : old.stopped ≡ false → IsServed server_machine 1 old new before after (body ∷ []) (reply ∷ [])
 
 -- A body that replaces the library is answered as a group of its own, while no group is open.
 pub record IsReplacedOver {D : Type 0} {g : Ghosts D} (old new : Store D g) (before after : State) (body : List ℕ)
     (reply : ReplyValue) : Type 0 where
   pub due : ReplyValue
-  pub replaced : IsAnsweredAlone requests (exchange body due []) (reply ∷ []) (grouping old before [] [])
+  pub replaced : IsBarrierAnswered server_machine (exchange body due []) (reply ∷ []) (grouping old before [] [])
       (grouping new after [] [])
   pub calls : CallsForLibrary old new after
 
@@ -94,13 +73,4 @@ abbrev pub IsReplacedOrLate : {D : Type 0} {g : Ghosts D} → Store D g → Stor
     → Type 0
 IsReplacedOrLate old new before after body reply =
     (old.stopped ≡ false → IsReplacedOver old new before after body reply)
-    × (old.stopped ≡ true → (reply ≡ failed body) × (new ≡ old) × (after ≡ before))
-
--- The device has failed before: all bodies get this reply, and nothing is done.
-pub record AnswersAfterFault {D : Type 0} {g : Ghosts D} (old new : Store D g) (before after : State)
-    (bodies : List (List ℕ))
-    (replies : List ReplyValue) : Type 0 where
-  pub told : replies ≡ map failed bodies
-  pub state : after ≡ before
-  pub disk : new.disk ≡ old.disk
-  pub stopped : new.stopped ≡ true
+    × (old.stopped ≡ true → (reply ≡ failed_reply body) × (new ≡ old) × (after ≡ before))

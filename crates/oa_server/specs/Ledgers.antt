@@ -3,21 +3,20 @@ use Rattle.std.specs.Prelude.{◌≡◌, ℕ, true, List, [], map}
 use Rattle.std.specs.List.Sorted.{IsStrictlySortedBy}
 use Rattle.std.specs.Map.{keys_of}
 use Rattle.std.specs.Ordering.{nat_cmp}
-use Rattle.oa_groups.specs.Runs.{TurnsOver}
-use Rattle.oa_groups.specs.Turns.{Exchange, body_of, reply_of}
-use Rattle.oa_image.specs.Tables.{is_numbered}
-use Rattle.oa_owners.specs.ClientLocks.{of_others}
-use Rattle.oa_owners.specs.Counts.{IsLedger}
-use Rattle.oa_record.specs.Replies.{ReplyValue}
-use Rattle.oa_server.specs.SharedRequests.{opened, shared_requests}
-use Rattle.oa_server.specs.Sharing.{ClientReply, IsSharedTurn, Replies, Shared, TurnOf, TurnsFor, behind_all, tagged}
-use Rattle.oa_share.specs.Readers.{Body, Brought}
+use Rattle.oa_group_commit.specs.promise.Groups.{Trace, Exchange, body_of, reply_of}
+use Rattle.oa_image.specs.promise.Tables.{is_numbered}
+use Rattle.oa_turn.specs.promise.ClientLocks.{of_others}
+use Rattle.oa_turn.specs.Counts.{IsLedger}
+use Rattle.oa_record.specs.promise.Replies.{ReplyValue}
+use Rattle.oa_server.specs.promise.SharedMachine.{opened_shared, shared_machine, ClientReply, IsSharedTurn, Replies}
+use Rattle.oa_server.specs.promise.SharedMachine.{Shared, SharedTurnOf, TurnsFor, all_released, tagged_body}
+use Rattle.oa_mux.specs.promise.Readers.{Body, Brought}
 use Rattle.oa_table.specs.Locks.{locks_at}
 use Rattle.oa_table.specs.declared.name.CellName.{CellName}
-use Rattle.oa_turn.specs.Turns.{Run, Turn}
+use Rattle.oa_turn.specs.promise.Turns.{Run, Turn}
 
--- Each array of the table has as many locks as clients have on it; the table's objects are numbered, in the order of
--- their numbers.
+-- Each array of the table has the locks that clients have on it. The table's objects are numbered,
+-- in the order of their numbers.
 pub record HasLedger (one : Shared) : Type 0 where
   pub numbered : is_numbered one.state.table ≡ true
   pub ledger : IsLedger one.locks one.state.table
@@ -35,21 +34,21 @@ TurnsKeepLedger =
 abbrev pub ClientsKeepLedger : Type 0
 ClientsKeepLedger =
     (client : ℕ) (brought : Brought) (told : ClientReply) (old new : Shared) → HasLedger old
-    → TurnOf client brought told old new → HasLedger new
+    → SharedTurnOf client brought told old new → HasLedger new
 
 abbrev pub RunsKeepLedger : Type 0
 RunsKeepLedger = (old new : Shared) (entries : List (Exchange ClientReply)) → HasLedger old
-    → TurnsOver shared_requests old entries new → HasLedger new
+    → Trace shared_machine old entries new → HasLedger new
 
 -- and at the start of a session, when there are no locks
 abbrev pub OpeningHasLedger : Type 0
 OpeningHasLedger =
     (one : Shared) → is_numbered one.state.table ≡ true → IsStrictlySortedBy nat_cmp (keys_of one.state.table.objects)
-    → HasLedger (opened one)
+    → HasLedger (opened_shared one)
 
 -- after the end of a session no array is locked
 abbrev pub EndUnlocksAll : Type 0
-EndUnlocksAll = (old : Shared) (name : CellName) → HasLedger old → locks_at name (behind_all old).state.table ≡ 0
+EndUnlocksAll = (old : Shared) (name : CellName) → HasLedger old → locks_at name (all_released old).state.table ≡ 0
 
 -- a single client gets the replies of a server of one client
 abbrev pub IsTurnOfOne : Type 0
@@ -61,6 +60,6 @@ abbrev pub IsRunOfOne : Type 0
 IsRunOfOne =
     (client : ℕ) (old new : Shared) (entries : List (Exchange ClientReply)) (bodies : List (List ℕ))
     (replies : List ReplyValue)
-    → HasLedger old → OwnsAll client old → TurnsOver shared_requests old entries new
-    → map body_of entries ≡ map (λ body. tagged client (Body body)) bodies
+    → HasLedger old → OwnsAll client old → Trace shared_machine old entries new
+    → map body_of entries ≡ map (λ body. tagged_body client (Body body)) bodies
     → map reply_of entries ≡ map (λ reply. Replies client reply) replies → Run old.state bodies replies new.state

@@ -2,30 +2,29 @@
 use Rattle.std.specs.Prelude.{◌≡◌, ℕ, false, List, [], ◌∷◌, ◌++◌, map, Option, Some, None}
 use Rattle.oa_disk.specs.declared.disk.Disk.{Ghosts}
 use Rattle.oa_frame.specs.declared.ends.End.{End}
-use Rattle.oa_record.specs.Replies.{ReplyValue, reply_record}
+use Rattle.oa_record.specs.promise.Replies.{ReplyValue, reply_record}
 use Rattle.oa_store.specs.declared.store.Store.{Store}
-use Rattle.oa_server.specs.Desks.{frames_of}
+use Rattle.oa_server.specs.promise.SharedSessions.{frames_of, asked_written}
 use Rattle.oa_server.specs.Ledgers.{HasLedger, OwnsAll}
-use Rattle.oa_server.specs.SharedTalks.{asked_written}
-use Rattle.oa_server.specs.Sharing.{Leaves, Shared, shared}
-use Rattle.oa_server.specs.Stretches.{AnswersStretches, all_told}
-use Rattle.oa_server.specs.declared.engine.Engine.{Engine}
+use Rattle.oa_server.specs.promise.SharedMachine.{Leaves, Shared, shared, all_told}
+use Rattle.oa_server.specs.Stretches.{AnswersStretches}
+use Rattle.oa_server.specs.declared.engine.ServerState.{ServerState}
 use Rattle.oa_server.specs.declared.storage.Storage.TheVariants.{Memory}
-use Rattle.oa_share.specs.Marks.{Now, Of, Owned}
-use Rattle.oa_share.specs.Readers.{Body, Brought, Ends}
-use Rattle.oa_share.specs.Talking.{AllTurned}
-use Rattle.oa_decision.specs.States.{State}
+use Rattle.oa_mux.specs.promise.Marks.{Flush, Of, Tagged}
+use Rattle.oa_mux.specs.promise.Readers.{Body, Brought, Ends}
+use Rattle.oa_mux.specs.promise.Talking.{AllTurned}
+use Rattle.oa_decision.specs.promise.States.{State}
 use Rattle.oa_table.specs.Locks.{locks_at}
 use Rattle.oa_table.specs.declared.name.CellName.{CellName}
-use Rattle.oa_turn.specs.Plans.{HoldsSame}
-use Rattle.oa_turn.specs.Turns.{Run}
+use Rattle.oa_turn.specs.promise.Plans.{HoldsSame}
+use Rattle.oa_turn.specs.promise.Turns.{Run}
 
 -- these bodies of this client come, and then its end if there is one, with a *now* anywhere
-abbrev pub AsksBodies : ℕ → List (Owned Brought) → List (List ℕ) → Option End → Type 0
+abbrev pub AsksBodies : ℕ → List (Tagged Brought) → List (List ℕ) → Option End → Type 0
 AsksBodies client [] [] None = Unit {0}
 AsksBodies client [] [] (Some end) = ⊥
 AsksBodies client [] (body ∷ bodies) left = ⊥
-AsksBodies client (Now ∷ asks) bodies left = AsksBodies client asks bodies left
+AsksBodies client (Flush ∷ asks) bodies left = AsksBodies client asks bodies left
 AsksBodies client (Of other (Ends why) ∷ asks) [] None = ⊥
 AsksBodies client (Of other (Ends why) ∷ asks) [] (Some end) =
     (other ≡ client) × (why ≡ end) × AsksBodies client asks [] None
@@ -67,7 +66,7 @@ pub record AnswersOneClient (client : ℕ) (old : State) (bodies : List (List �
 -- So in memory
 abbrev pub OneClientInMemory : {D : Type 0} → Ghosts D → Type 0
 OneClientInMemory {D} g =
-    (client : ℕ) (disk : D) (old new : Engine D g) (asks : List (Owned Brought)) (bodies : List (List ℕ))
+    (client : ℕ) (disk : D) (old new : ServerState D g) (asks : List (Tagged Brought)) (bodies : List (List ℕ))
     (left : Option End) (tolds : List (List (ℕ × List ℕ)))
     → old.storage ≡ Memory disk → HasLedger (shared old.host old.desk.owners)
     → OwnsAll client (shared old.host old.desk.owners)
@@ -77,8 +76,8 @@ OneClientInMemory {D} g =
 -- and over a store, if no call of the device fails
 abbrev pub OneClientOverStore : {D : Type 0} → Ghosts D → Type 0
 OneClientOverStore {D} g =
-    (client size : ℕ) (old new : Store D g) (before after : Shared) (asks : List (Owned Brought))
+    (client size : ℕ) (old new : Store D g) (before after : Shared) (asks : List (Tagged Brought))
     (bodies : List (List ℕ)) (left : Option End) (frames : List (ℕ × List ℕ))
     → new.stopped ≡ false → HasLedger before → OwnsAll client before → AsksBodies client asks bodies left
-    → AnswersStretches size old new before (asks ++ Now ∷ []) frames after
+    → AnswersStretches size old new before (asks ++ Flush ∷ []) frames after
     → AnswersOneClient client before.state bodies left frames after.state

@@ -1,41 +1,41 @@
 -- A server over a store, and the open group. (This project's choice.)
 use Rattle.std.specs.Prelude.{◌≡◌, ◌⊎◌, ◌-◌, ◌<◌, ◌≤◌, ◌++◌, ◌+◌, ◌*◌, ℕ, IsTrue, true, false, List, [], length}
 use Rattle.std.specs.Prelude.{vec_capacity, Result, IsOk, IsErrOf, OnOk, OnErr}
-use Rattle.oa_disk.specs.Disk.{HasCounted}
+use Rattle.oa_disk.specs.promise.Disk.{HasCounted}
 use Rattle.oa_disk.specs.declared.disk.Disk.{Ghosts}
-use Rattle.oa_groups.specs.Groupings.{Grouping, IsDue}
-use Rattle.oa_image.specs.Events.{event_image}
-use Rattle.oa_journal.specs.Replays.{Replays}
-use Rattle.oa_journal.specs.Shapes.{ample_bytes, body_bytes}
-use Rattle.oa_keeper.specs.Holding.{Carries}
-use Rattle.oa_keeper.specs.Kept.{HasRoom}
-use Rattle.oa_model.specs.Limits.{group_bytes, max_event_bytes}
-use Rattle.oa_record.specs.Replies.{ReplyValue}
-use Rattle.oa_store.specs.Calls.{checkpoint_calls}
-use Rattle.oa_store.specs.Writing.{Goes}
+use Rattle.oa_group_commit.specs.promise.Groups.{GroupState, IsDue}
+use Rattle.oa_image.specs.promise.Events.{event_image}
+use Rattle.oa_journal.specs.promise.Bank.{Replays, ample_bytes, body_bytes}
+use Rattle.oa_store.specs.promise.Holding.{PreservesCommitted}
+use Rattle.oa_store.specs.Kept.{HasRoom}
+use Rattle.oa_model.specs.promise.Limits.{group_bytes, max_event_bytes}
+use Rattle.oa_record.specs.promise.Replies.{ReplyValue}
+use Rattle.oa_store.specs.promise.Stores.{checkpoint_calls}
+use Rattle.oa_store.specs.promise.Writing.{DeviceFrame}
 use Rattle.oa_store.specs.declared.store.Store.{Store}
 use Rattle.oa_table.specs.Events.{BringsNoLocks}
-use Rattle.oa_table.specs.Tables.{TableValue}
+use Rattle.oa_table.specs.promise.Tables.{TableValue}
 use Rattle.oa_table.specs.declared.event.Event.{Event}
 use Rattle.oa_server.specs.declared.fault.HoldFault.{HoldFault}
 use Rattle.oa_server.specs.declared.fault.HoldFault.TheVariants as faults
 use Rattle.oa_server.specs.declared.open_group.OpenGroup.{OpenGroup}
-use Rattle.oa_server.specs.Requests.{HasTurn, requests}
-use Rattle.oa_turn.specs.Events.{held_of}
-use Rattle.oa_decision.specs.Limits.{allowed}
-use Rattle.oa_decision.specs.States.{State}
+use Rattle.oa_server.specs.ServerMachine.{HasTurn}
+use Rattle.oa_server.specs.promise.ServerMachine.{server_machine}
+use Rattle.oa_turn.specs.promise.Events.{held_of}
+use Rattle.oa_decision.specs.promise.Limits.{allowed}
+use Rattle.oa_decision.specs.promise.States.{State}
 
 -- the store, the state, the held replies, the events that are not committed
 abbrev pub grouping : {D : Type 0} {g : Ghosts D} → Store D g → State → List ReplyValue → List ℕ
-    → Grouping State ReplyValue D g
+    → GroupState State ReplyValue D g
 grouping store state pending events = record { store = store; state = state; pending = pending; events = events }
 
 -- with the open group, and after its replies were sent
-abbrev pub grouping_of : {D : Type 0} {g : Ghosts D} → Store D g → State → OpenGroup → Grouping State ReplyValue D g
+abbrev pub grouping_of : {D : Type 0} {g : Ghosts D} → Store D g → State → OpenGroup → GroupState State ReplyValue D g
 grouping_of store state open_group = grouping store state open_group.replies.items open_group.batch
 
 abbrev pub cleared_grouping : {D : Type 0} {g : Ghosts D} → Store D g → State → OpenGroup
-    → Grouping State ReplyValue D g
+    → GroupState State ReplyValue D g
 cleared_grouping store state open_group = grouping store state [] open_group.batch
 
 -- the state has the size of the store's banks
@@ -63,7 +63,7 @@ CanTakeCleared store open_group = IsReady store open_group.size (vec_capacity op
 
 -- a checkpoint is due before an event of this body
 abbrev pub IsDueFor : {D : Type 0} {g : Ghosts D} → Store D g → State → List ℕ → List ℕ → Type 0
-IsDueFor store state events body = IsDue requests store state events body
+IsDueFor store state events body = IsDue server_machine store state events body
 
 -- The device is called only for a checkpoint, if one is due.
 abbrev pub CallsWhereDue : {D : Type 0} {g : Ghosts D} → Store D g → Store D g → State → List ℕ → List ℕ → Type 0
@@ -78,12 +78,12 @@ CallsForCheckpoint {D} {g} old new table =
 -- has stopped exactly if that failed.
 pub record HoldsOn {D T E : Type 0} {g : Ghosts D} (events events' : List ℕ) (held : TableValue) (old new : Store D g)
     (result : Result T E) : Type 0 where
-  pub carries : Carries events held old new
+  pub carries : PreservesCommitted events held old new
   pub undue : ample_bytes ≤ body_bytes old.bank.shape - old.bank.gate → new.disk ≡ old.disk
   pub room : new.stopped ≡ false → HasRoom events' new
   pub going : OnOk result (new.stopped ≡ false)
   pub stops : OnErr result (new.stopped ≡ true)
-  pub goes : Goes old new
+  pub goes : DeviceFrame old new
 
 -- The checkpoint before a body's event, which was due, has failed: the turn is one that changes nothing in images.
 pub record IsCutOff {D : Type 0} {g : Ghosts D} (store : Store D g) (body events events' : List ℕ)
@@ -123,9 +123,9 @@ pub record StopsAtCheckpoint {D T : Type 0} {g : Ghosts D} (old new : Store D g)
 -- what a checkpoint before an event leaves of the store, which stops exactly if it fails
 pub record MakesWay {D T : Type 0} {g : Ghosts D} (events : List ℕ) (held : TableValue) (old new : Store D g)
     (result : Result T HoldFault) : Type 0 where
-  pub carries : Carries events held old new
+  pub carries : PreservesCommitted events held old new
   pub stops : StopsAtCheckpoint old new result
-  pub goes : Goes old new
+  pub goes : DeviceFrame old new
 
 -- replies with this property were returned
 pub record HandsOut (P : List ReplyValue → Type 0) (old new : List ReplyValue) : Type 0 where

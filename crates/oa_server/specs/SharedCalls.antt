@@ -1,54 +1,55 @@
 -- A session of many clients over a store, as calls of a session over that store. (This project's choice.)
 use Rattle.std.specs.Prelude.{◌≡◌, ◌⊎◌, ◌≤◌, ℕ, false, List, [], ◌∷◌, ◌++◌, length}
 use Rattle.oa_disk.specs.declared.disk.Disk.{Ghosts}
-use Rattle.oa_groups.specs.Sessions.{AnsweredCall, IsSessionOn, Sitting, answered_by}
-use Rattle.oa_record.specs.Replacement.{is_replacement}
+use Rattle.oa_group_commit.specs.promise.Groups.{AnsweredCall, IsSessionOn, OpenSession}
+use Rattle.oa_group_commit.specs.Sessions.{answered_by}
+use Rattle.oa_record.specs.promise.Replacement.{is_replacement}
 use Rattle.oa_store.specs.declared.store.Store.{Store}
-use Rattle.oa_stream.specs.Sink.{Breaks, Output, Writes}
-use Rattle.oa_stream.specs.Source.{Input}
-use Rattle.oa_server.specs.SharedRequests.{shared_requests}
-use Rattle.oa_server.specs.SharedSessions.{HasServedClients}
-use Rattle.oa_server.specs.Sharing.{ClientReply, Shared, behind_all, shared}
-use Rattle.oa_server.specs.Stretches.{AnswersStretches, ServesStretches, Stretch, all_told}
-use Rattle.oa_server.specs.declared.engine.Engine.{Engine}
+use Rattle.oa_stream.specs.promise.Sink.{Breaks, Output, Writes}
+use Rattle.oa_stream.specs.promise.Source.{Input}
+use Rattle.oa_server.specs.promise.SharedMachine.{shared_machine, ClientReply, Shared, all_released, shared, Stretch}
+use Rattle.oa_server.specs.promise.SharedMachine.{all_told}
+use Rattle.oa_server.specs.promise.SharedSessions.{IsSharedSession}
+use Rattle.oa_server.specs.Stretches.{AnswersStretches, ServesStretches}
+use Rattle.oa_server.specs.declared.engine.ServerState.{ServerState}
 use Rattle.oa_server.specs.declared.storage.Storage.TheVariants.{Disk}
-use Rattle.oa_share.specs.Marks.{Now, Owned}
-use Rattle.oa_share.specs.Outgoing.{spelled_told}
-use Rattle.oa_share.specs.Readers.{Brought, ClientState}
-use Rattle.oa_share.specs.Talking.{ends_at, ends_in, parted}
-use Rattle.oa_share.specs.declared.session_end.SessionEnd.{SessionEnd}
-use Rattle.oa_share.specs.declared.session_end.SessionEnd.TheVariants.{WriteFault}
+use Rattle.oa_mux.specs.promise.Marks.{Flush, Tagged}
+use Rattle.oa_mux.specs.promise.Outgoing.{spelled_told}
+use Rattle.oa_mux.specs.promise.Readers.{Brought, ClientState}
+use Rattle.oa_mux.specs.promise.Talking.{ends_at, ends_in, parted}
+use Rattle.oa_mux.specs.declared.session_end.SessionEnd.{SessionEnd}
+use Rattle.oa_mux.specs.declared.session_end.SessionEnd.TheVariants.{WriteFault}
 
 -- The ends at the end of a session: those of the clients that are present then; or the first of them, if the writer
 -- has failed.
-abbrev pub AreLastEnds : SessionEnd → List (ℕ × ClientState) → List (Owned Brought) → Type 0
+abbrev pub AreLastEnds : SessionEnd → List (ℕ × ClientState) → List (Tagged Brought) → Type 0
 AreLastEnds why clients ends = (ends ≡ ends_at why clients)
-    ⊎ (why ≡ WriteFault) × (others : List (Owned Brought)) × (ends ++ others ≡ ends_in clients)
+    ⊎ (why ≡ WriteFault) × (others : List (Tagged Brought)) × (ends ++ others ≡ ends_in clients)
 
 -- A whole session: the requests, the ends of these clients, and a last *now* were answered by calls that were served,
 -- one for each *now*. The frames of their replies were written. If the writer had failed, those of the last turn may
 -- be lost. After that all locks are released.
-pub record IsCallsOf {D : Type 0} {g : Ghosts D} (asked : List (Owned Brought)) (clients : List (ℕ × ClientState))
+pub record IsCallsOf {D : Type 0} {g : Ghosts D} (asked : List (Tagged Brought)) (clients : List (ℕ × ClientState))
     (why : SessionEnd)
     (out out' : Output) (size : ℕ) (old new : Store D g)
     (before after : Shared) : Type 0 where
-  pub ends : List (Owned Brought)
+  pub ends : List (Tagged Brought)
   pub ends_are : AreLastEnds why clients ends
   pub heard : List (List (ℕ × List ℕ))
   pub unheard : List (List (ℕ × List ℕ))
   pub few : length unheard ≤ 1
   pub last : Shared
-  pub answers : AnswersStretches size old new before (parted is_replacement asked ++ (ends ++ Now ∷ []))
+  pub answers : AnswersStretches size old new before (parted is_replacement asked ++ (ends ++ Flush ∷ []))
       (all_told (heard ++ unheard)) last
   pub written : (Writes out out' (spelled_told heard) × (unheard ≡ [])) ⊎ Breaks out out' (spelled_told heard)
-  pub behind : after ≡ behind_all last
+  pub behind : after ≡ all_released last
 
 -- So is each session of many clients over a store.
 abbrev pub SessionsAreCalls : {D : Type 0} → Ghosts D → Type 0
 SessionsAreCalls {D} g =
-    (input input' : Input) (out out' : Output) (size : ℕ) (old new : Engine D g) (start : Store D g)
+    (input input' : Input) (out out' : Output) (size : ℕ) (old new : ServerState D g) (start : Store D g)
     (why : SessionEnd)
-    → old.storage ≡ Disk start → (session : HasServedClients input input' out out' size old new why)
+    → old.storage ≡ Disk start → (session : IsSharedSession input input' out out' size old new why)
     → (end : Store D g) × (new.storage ≡ Disk end)
     × IsCallsOf session.serves.asked session.serves.streams.clients why out out' size start end (shared old.host [])
     (shared new.host new.desk.owners)
@@ -62,17 +63,17 @@ stretch_calls size (stretch ∷ stretches) =
 abbrev pub StretchesGoOn : {D : Type 0} → Ghosts D → Type 0
 StretchesGoOn {D} g =
     (start : D) (mid new : Store D g) (first last after : Shared) (calls : List (AnsweredCall ClientReply)) (size : ℕ)
-    (stretches : List Stretch) → Sitting shared_requests start mid first last calls
+    (stretches : List Stretch) → OpenSession shared_machine start mid first last calls
     → ServesStretches size mid new last stretches after
-    → new.stopped ≡ false → Sitting shared_requests start new first after (calls ++ stretch_calls size stretches)
+    → new.stopped ≡ false → OpenSession shared_machine start new first after (calls ++ stretch_calls size stretches)
 
 -- They are calls of it also if the device fails in one of them: from its start on, everything answered before them
 -- counts.
 abbrev pub StretchesCount : {D : Type 0} → Ghosts D → Type 0
 StretchesCount {D} g =
     (start : D) (mid new : Store D g) (first last after : Shared) (calls : List (AnsweredCall ClientReply)) (size : ℕ)
-    (stretches : List Stretch) → (was : Sitting shared_requests start mid first last calls) → mid.stopped ≡ false
+    (stretches : List Stretch) → (was : OpenSession shared_machine start mid first last calls) → mid.stopped ≡ false
     → ServesStretches size mid new last stretches after
-    → (session : IsSessionOn shared_requests g start new.disk first (calls ++ stretch_calls size stretches) after)
+    → (session : IsSessionOn shared_machine g start new.disk first (calls ++ stretch_calls size stretches) after)
     × (session.stopped ≡ new.stopped)
     × ((m : ℕ) → g.moment mid.disk ≤ m → was.session.count ≤ answered_by m session.moments)

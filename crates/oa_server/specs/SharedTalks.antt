@@ -1,56 +1,17 @@
--- Sessions of many clients, in memory and over a store. (This project's choice.)
-use Rattle.std.specs.Prelude.{◌≡◌, ℕ, List, [], ⊤}
+-- Definitions for contracts and proofs, beside promise/SharedSessions.
+use Rattle.std.specs.Prelude.{⊤}
 use Rattle.oa_disk.specs.declared.disk.Disk.{Ghosts}
-use Rattle.oa_groups.specs.Groupings.{Grouping, IsEnded, IsTaken}
-use Rattle.oa_store.specs.declared.store.Store.{Store}
-use Rattle.oa_server.specs.Desks.{DeskIsReady, all_frames, desk_grouping, frames_of}
-use Rattle.oa_server.specs.SharedRequests.{shared_requests}
-use Rattle.oa_server.specs.Sharing.{ClientReply, Shared, TurnOf, shared, tagged}
-use Rattle.oa_server.specs.declared.desk.Desk.{Desk}
-use Rattle.oa_server.specs.declared.engine.Engine.{Engine}
+use Rattle.oa_server.specs.SharedGroups.{DeskIsReady}
+use Rattle.oa_server.specs.declared.desk.SharedGroup.{SharedGroup}
+use Rattle.oa_server.specs.declared.engine.ServerState.{ServerState}
 use Rattle.oa_server.specs.declared.storage.Storage.{Storage}
 use Rattle.oa_server.specs.declared.storage.Storage.TheVariants.{Disk, Memory}
-use Rattle.oa_share.specs.Marks.{Owned, Of, Now}
-use Rattle.oa_share.specs.Readers.{Brought}
-use Rattle.oa_decision.specs.States.{State}
 
 -- one more request fits into the open group
-abbrev pub DeskCanTake : {D : Type 0} {g : Ghosts D} → Storage D g → Desk → Type 0
+abbrev pub DeskCanTake : {D : Type 0} {g : Ghosts D} → Storage D g → SharedGroup → Type 0
 DeskCanTake (Memory disk) desk = ⊤
 DeskCanTake (Disk store) desk = DeskIsReady store desk
 
--- a client's body or its end is executed; or a *now* ends the open group
-abbrev pub TakenOver : {D : Type 0} {g : Ghosts D} → Owned Brought → ℕ → List ClientReply
-    → Grouping Shared ClientReply D g → Grouping Shared ClientReply D g → Type 0
-TakenOver (Of client brought) size told old new = IsTaken shared_requests size (tagged client brought) told old new
-TakenOver Now size told old new = IsEnded shared_requests told old new × (new.pending ≡ []) × (new.events ≡ [])
-
--- the same, with the frames that are sent
-pub record TakesOver {D : Type 0} {g : Ghosts D} (old : Store D g) (before : State) (desk : Desk) (ask : Owned Brought)
-    (frames : List (ℕ × List ℕ)) (new : Store D g) (after : State) (desk' : Desk) : Type 0 where
-  pub told : List ClientReply
-  pub are : frames ≡ all_frames told
-  pub size : desk'.open_group.size ≡ desk.open_group.size
-  pub taken : TakenOver ask desk.open_group.size told (desk_grouping old before desk) (desk_grouping new after desk')
-
--- In memory each is answered at once, and nothing is held.
-abbrev pub AnswersInMemory : Shared → Owned Brought → List (ℕ × List ℕ) → Shared → Type 0
-AnswersInMemory before (Of client brought) frames after =
-    (told : ClientReply) × (frames ≡ frames_of told) × TurnOf client brought told before after
-AnswersInMemory before Now frames after = (frames ≡ []) × (after ≡ before)
-
-abbrev pub AsksIn : {D : Type 0} {g : Ghosts D} → Storage D g → State → Desk → Owned Brought → List (ℕ × List ℕ)
-    → Storage D g → State → Desk → Type 0
-AsksIn (Memory old) before desk ask frames new after desk' =
-    (new ≡ Memory old) × AnswersInMemory (shared before desk.owners) ask frames (shared after desk'.owners)
-AsksIn (Disk old) before desk ask frames (Disk new) after desk' = TakesOver old before desk ask frames new after desk'
-AsksIn (Disk old) before desk ask frames (Memory new) after desk' = ⊥
-
 -- the invariant of a server between two turns
-abbrev pub TakesAsked : {D : Type 0} {g : Ghosts D} → Engine D g → Type 0
+abbrev pub TakesAsked : {D : Type 0} {g : Ghosts D} → ServerState D g → Type 0
 TakesAsked engine = DeskCanTake engine.storage engine.desk
-
--- one turn, with the frames that are sent then
-abbrev pub asked_written : {D : Type 0} {g : Ghosts D} → Engine D g → Owned Brought → List (ℕ × List ℕ)
-    → Engine D g → Type 0
-asked_written old ask frames new = AsksIn old.storage old.host old.desk ask frames new.storage new.host new.desk

@@ -1,33 +1,11 @@
--- The replies to many clients from one *now* to the next. (This project's choice.)
-use Rattle.std.specs.Prelude.{◌≡◌, ℕ, true, false, List, [], ◌∷◌, ◌++◌, map}
+-- Definitions for contracts and proofs, beside promise/SharedMachine.
+use Rattle.std.specs.Prelude.{◌≡◌, ℕ, List, [], ◌∷◌, ◌++◌, map}
 use Rattle.oa_disk.specs.declared.disk.Disk.{Ghosts}
-use Rattle.oa_groups.specs.Served.{IsServed}
 use Rattle.oa_store.specs.declared.store.Store.{Store}
-use Rattle.oa_server.specs.Desks.{all_frames}
-use Rattle.oa_server.specs.SharedRequests.{shared_requests}
-use Rattle.oa_server.specs.Sharing.{ClientReply, Shared, failed, tagged}
-use Rattle.oa_share.specs.Marks.{Owned, Of, Now}
-use Rattle.oa_share.specs.Readers.{Brought}
-
--- the requests of all clients in their order, and the replies in the same order
-pub record Stretch : Type 0 where
-  pub bodies : List (List ℕ)
-  pub told : List ClientReply
-
--- After a fault of the device all get that reply, and nothing is done.
-pub record IsLateFor {D : Type 0} {g : Ghosts D} (old new : Store D g) (before after : Shared) (bodies : List (List ℕ))
-    (told : List ClientReply) : Type 0 where
-  pub told_is : told ≡ map failed bodies
-  pub state : after ≡ before
-  pub disk : new.disk ≡ old.disk
-  pub stopped : new.stopped ≡ true
-
--- a stretch is a call that was served, in groups of a size
-pub record ServesStretch {D : Type 0} {g : Ghosts D} (size : ℕ) (old new : Store D g) (before : Shared)
-    (stretch : Stretch)
-    (after : Shared) : Type 0 where
-  pub served : old.stopped ≡ false → IsServed shared_requests size old new before after stretch.bodies stretch.told
-  pub late : old.stopped ≡ true → IsLateFor old new before after stretch.bodies stretch.told
+use Rattle.oa_server.specs.promise.SharedSessions.{all_frames}
+use Rattle.oa_server.specs.promise.SharedMachine.{ClientReply, Shared, tagged_body, Stretch, ServesStretch}
+use Rattle.oa_mux.specs.promise.Marks.{Tagged, Of, Flush}
+use Rattle.oa_mux.specs.promise.Readers.{Brought}
 
 -- one after the other
 abbrev pub ServesStretches : {D : Type 0} {g : Ghosts D} → ℕ → Store D g → Store D g → Shared → List Stretch → Shared
@@ -38,10 +16,10 @@ ServesStretches {D} {g} size old new before (stretch ∷ stretches) after =
     × ServesStretches size mid new state stretches after
 
 -- the requests, divided after each *now*; those that no *now* follows are left out
-unfoldable pub cut_at_now : List (List ℕ) → List (Owned Brought) → List (List (List ℕ))
+unfoldable pub cut_at_now : List (List ℕ) → List (Tagged Brought) → List (List (List ℕ))
 cut_at_now front [] = []
-cut_at_now front (Of client brought ∷ asks) = cut_at_now (front ++ tagged client brought ∷ []) asks
-cut_at_now front (Now ∷ asks) = front ∷ cut_at_now [] asks
+cut_at_now front (Of client brought ∷ asks) = cut_at_now (front ++ tagged_body client brought ∷ []) asks
+cut_at_now front (Flush ∷ asks) = front ∷ cut_at_now [] asks
 
 abbrev pub bodies_of : Stretch → List (List ℕ)
 bodies_of stretch = stretch.bodies
@@ -50,14 +28,10 @@ unfoldable pub told_in : List Stretch → List ClientReply
 told_in [] = []
 told_in (stretch ∷ stretches) = stretch.told ++ told_in stretches
 
-unfoldable pub all_told : List (List (ℕ × List ℕ)) → List (ℕ × List ℕ)
-all_told [] = []
-all_told (told ∷ tolds) = told ++ all_told tolds
-
 -- Over a store: the requests up to each *now* are a call that was served, and the frames are those of the replies of
 -- these calls, in order.
 pub record AnswersStretches {D : Type 0} {g : Ghosts D} (size : ℕ) (old new : Store D g) (before : Shared)
-    (asks : List (Owned Brought))
+    (asks : List (Tagged Brought))
     (frames : List (ℕ × List ℕ)) (after : Shared) : Type 0 where
   pub stretches : List Stretch
   pub are : cut_at_now [] asks ≡ map bodies_of stretches

@@ -2,12 +2,12 @@
 ghost use Rattle.std.specs.Prelude.{◌≡◌};
 ghost use Rattle.oa_server.specs.declared.fault.HoldFault.TheVariants.{Device, Memory};
 
-use oa_keeper::DeviceFailed;
+use oa_store::DeviceFailed;
 use std::alloc::AllocError;
 use thiserror::Error;
 
-/// Why a change was not made. The table and the batch have not changed, and images are stores of the same table as
-/// before.
+/// Why a change was not made. The table and the batch have not changed, and images are stores of
+/// the same table as before.
 #[derive(Clone, Copy, Debug, PartialEq, Eq, Error)]
 pub(crate) enum HoldFault {
     /// An allocation failed.

@@ -1,30 +1,30 @@
-//! Group commit: the events of a group of requests are committed together, and the replies are held back until then.
+//! Group commit: the events of a group of requests are committed together, and the replies are held
+//! back until then.
 ghost use Rattle.std.specs.Prelude.{◌≡◌, ◌≤◌, ◌<◌, ◌+◌, ◌++◌, ◌∷◌, [], IfOk, OnErr, false, length, map, true, vec_capacity};
-ghost use Rattle.oa_groups.specs.Groupings.{IsEnded, IsSettled, IsTaken};
-ghost use Rattle.oa_groups.specs.Served.{IsServed};
-ghost use Rattle.oa_journal.specs.Shapes.{ample_bytes};
-ghost use Rattle.oa_keeper.specs.Kept.{HasRoom};
-ghost use Rattle.oa_record.specs.Replacement.{is_replacement};
-ghost use Rattle.oa_server.specs.Answers.{IsAnswered, AnswersAfterFault, IsReplacedOver, IsReplacedOrLate};
+ghost use Rattle.oa_group_commit.specs.promise.Groups.{IsAdmitted, IsEnded, IsGroupCommitted, IsServed};
+ghost use Rattle.oa_journal.specs.promise.Bank.{ample_bytes};
+ghost use Rattle.oa_store.specs.Kept.{HasRoom};
+ghost use Rattle.oa_record.specs.promise.Replacement.{is_replacement};
+ghost use Rattle.oa_server.specs.Answers.{IsAnswered, IsReplacedOver, IsReplacedOrLate};
+ghost use Rattle.oa_server.specs.promise.ServerMachine.{AnswersAfterFault, server_machine};
 ghost use Rattle.oa_server.specs.OpenGroups.{CanTake, CanTakeCleared, HandsOut, HasBanks, cleared_grouping, grouping_of};
-ghost use Rattle.oa_server.specs.Requests.{requests};
 
 use crate::holding::turn_held;
-use crate::open_group::{OpenGroup, bare_reply, withdraw};
+use crate::open_group::{OpenGroup, bare_reply, fail_replies};
 use crate::replacement::replace_over;
 use oa_disk::Disk;
-use oa_keeper::{Batch, commit};
 use oa_model::HResult;
 use oa_record::{Reply, is_replacement};
-use oa_store::Store;
-use oa_turn::Host;
+use oa_store::{EventBatch, Store, commit};
+use oa_turn::Machine;
 use std::alloc::{AllocError, Global};
 
-/// Answers one body as a group of one, with a batch of its own. After a fault of the device the reply is that the
-/// store has failed, and nothing is done.
+/// Returns the reply to one body, which is a group of its own, with a batch of its own. If the
+/// device fails in this call, the reply is STG_E_WRITEFAULT. If it failed earlier, the reply is
+/// E_FAIL, and nothing is done.
 pub(crate) fn answer_over<D: Disk>(
     alloc: Global,
-    host: &mut Host,
+    host: &mut Machine,
     store: &mut Store<D>,
     body: &[u8],
 ) -> Reply
@@ -38,7 +38,7 @@ pub(crate) fn answer_over<D: Disk>(
     if is_replacement(body) {
         return replaced_over(alloc, host, store, body);
     }
-    let mut batch = Batch::new(alloc);
+    let mut batch = EventBatch::new(alloc);
     let Ok(reply) = turn_held(alloc, host, store, &mut batch, body) else {
         return bare_reply(alloc, body, HResult::STG_E_WRITEFAULT);
     };
@@ -48,10 +48,11 @@ pub(crate) fn answer_over<D: Disk>(
     reply
 }
 
-/// Answers one request to replace the library, which is a group of its own.
+/// Returns the reply to a request to replace the library, which is a group of its own:
+/// STG_E_WRITEFAULT if the device fails.
 fn replaced_over<D: Disk>(
     alloc: Global,
-    host: &mut Host,
+    host: &mut Machine,
     store: &mut Store<D>,
     body: &[u8],
 ) -> Reply
@@ -67,17 +68,18 @@ fn replaced_over<D: Disk>(
     }
 }
 
-/// Ends the open group: commits its events; its replies can then be sent, or have become faults.
-pub(crate) fn settle<D: Disk>(
+/// Commits the events of the open group. Its replies can then be sent; if the device fails, each
+/// becomes STG_E_WRITEFAULT.
+pub(crate) fn commit_group<D: Disk>(
     alloc: Global,
-    host: &Host,
+    host: &Machine,
     store: &mut Store<D>,
     open_group: &mut OpenGroup,
 )
     requires goes_on { store.old.stopped ≡ false }
     requires room { HasRoom open_group.old.batch store.old }
     requires few { length open_group.old.batch + 6 ≤ ample_bytes }
-    ensures settled { IsSettled requests open_group.new.replies.items (grouping_of store.old host.now open_group.old)
+    ensures settled { IsGroupCommitted server_machine open_group.new.replies.items (grouping_of store.old host.now open_group.old)
         (cleared_grouping store.new host.now open_group.new) }
     ensures batch { open_group.new.batch ≡ [] }
     ensures shape { store.new.bank.shape ≡ store.old.bank.shape }
@@ -86,15 +88,18 @@ pub(crate) fn settle<D: Disk>(
     ensures size { open_group.new.size ≡ open_group.old.size }
 {
     if let Err(_) = commit(store, &mut open_group.batch) {
-        withdraw(alloc, &mut open_group.replies);
+        fail_replies(alloc, &mut open_group.replies);
     }
 }
 
-/// Executes one request in the open group; the request is not a group of its own. Returns `true` if the group ended
-/// and the replies that it holds can be sent.
-pub(crate) fn take<D: Disk>(
+/// Executes one request, which does not come alone, in the open group. Returns `true` if the group
+/// has ended and the held replies can be sent.
+///
+/// If a checkpoint or a commit fails, each reply of the group becomes STG_E_WRITEFAULT. If the
+/// device failed earlier, nothing is done, and the reply is E_FAIL.
+pub(crate) fn admit<D: Disk>(
     alloc: Global,
-    host: &mut Host,
+    host: &mut Machine,
     store: &mut Store<D>,
     open_group: &mut OpenGroup,
     body: &[u8],
@@ -103,8 +108,8 @@ pub(crate) fn take<D: Disk>(
     requires plain { is_replacement body.now ≡ false }
     requires banks { HasBanks store.old host.old }
     ensures held { result ≡ false
-        → IsTaken requests open_group.old.size body.now [] (grouping_of store.old host.old open_group.old) (grouping_of store.new host.new open_group.new) }
-    ensures told { result ≡ true → IsTaken requests open_group.old.size body.now open_group.new.replies.items (grouping_of store.old host.old open_group.old)
+        → IsAdmitted server_machine open_group.old.size body.now [] (grouping_of store.old host.old open_group.old) (grouping_of store.new host.new open_group.new) }
+    ensures told { result ≡ true → IsAdmitted server_machine open_group.old.size body.now open_group.new.replies.items (grouping_of store.old host.old open_group.old)
         (cleared_grouping store.new host.new open_group.new) }
     ensures ready { result ≡ false → CanTake store.new open_group.new }
     ensures cleared { result ≡ true → CanTakeCleared store.new open_group.new }
@@ -123,23 +128,23 @@ pub(crate) fn take<D: Disk>(
             if !open_group.is_full() {
                 return false;
             }
-            settle(alloc, host, store, open_group);
+            commit_group(alloc, host, store, open_group);
             true
         }
         Err(_) => {
             let reply = bare_reply(alloc, body, HResult::STG_E_WRITEFAULT);
-            withdraw(alloc, &mut open_group.replies);
+            fail_replies(alloc, &mut open_group.replies);
             open_group.replies.push_reserved(reply);
             true
         }
     }
 }
 
-/// Answers one request to replace the library, after the group before it has ended, in which the device may have
-/// failed.
+/// Returns the reply to a request to replace the library, after the group before it has ended. If
+/// the device failed in that group or earlier, nothing is done, and the reply is E_FAIL.
 fn replaced_or_late<D: Disk>(
     alloc: Global,
-    host: &mut Host,
+    host: &mut Machine,
     store: &mut Store<D>,
     body: &[u8],
 ) -> Reply
@@ -154,11 +159,11 @@ fn replaced_or_late<D: Disk>(
     bare_reply(alloc, body, HResult::E_FAIL)
 }
 
-/// Executes a request that is a group of its own, after ending the open group. All replies that are held can be sent
-/// then.
+/// Ends the open group, and then executes a request that comes alone. All held replies can then be
+/// sent.
 fn take_apart<D: Disk>(
     alloc: Global,
-    host: &mut Host,
+    host: &mut Machine,
     store: &mut Store<D>,
     open_group: &mut OpenGroup,
     body: &[u8],
@@ -166,23 +171,24 @@ fn take_apart<D: Disk>(
     requires ready { CanTake store.old open_group.old }
     requires kind { is_replacement body.now ≡ true }
     requires banks { HasBanks store.old host.old }
-    ensures told { IsTaken requests open_group.old.size body.now open_group.new.replies.items (grouping_of store.old host.old open_group.old)
+    ensures told { IsAdmitted server_machine open_group.old.size body.now open_group.new.replies.items (grouping_of store.old host.old open_group.old)
         (cleared_grouping store.new host.new open_group.new) }
     ensures cleared { CanTakeCleared store.new open_group.new }
     ensures banks { HasBanks store.new host.new }
     ensures one { length open_group.new.replies.items ≡ length open_group.old.replies.items + 1 }
     ensures size { open_group.new.size ≡ open_group.old.size }
 {
-    finish(alloc, host, store, open_group);
-    open_group.batch = Batch::new(alloc);
+    flush_held(alloc, host, store, open_group);
+    open_group.batch = EventBatch::new(alloc);
     let reply = replaced_or_late(alloc, host, store, body);
     open_group.replies.push_reserved(reply);
 }
 
-/// Executes a request that is a group of its own, while no reply is held: its own can be sent at once.
-pub(crate) fn take_alone<D: Disk>(
+/// Executes a request that comes alone, while no reply is held. Returns its reply, which can be
+/// sent at once.
+pub(crate) fn admit_barrier<D: Disk>(
     alloc: Global,
-    host: &mut Host,
+    host: &mut Machine,
     store: &mut Store<D>,
     open_group: &mut OpenGroup,
     body: &[u8],
@@ -191,26 +197,27 @@ pub(crate) fn take_alone<D: Disk>(
     requires none { open_group.old.replies.items ≡ [] }
     requires kind { is_replacement body.now ≡ true }
     requires banks { HasBanks store.old host.old }
-    ensures told { IsTaken requests open_group.old.size body.now (result ∷ []) (grouping_of store.old host.old open_group.old)
+    ensures told { IsAdmitted server_machine open_group.old.size body.now (result ∷ []) (grouping_of store.old host.old open_group.old)
         (grouping_of store.new host.new open_group.new) }
     ensures ready { CanTake store.new open_group.new }
     ensures banks { HasBanks store.new host.new }
     ensures none { open_group.new.replies.items ≡ [] }
     ensures size { open_group.new.size ≡ open_group.old.size }
 {
-    open_group.batch = Batch::new(alloc);
+    open_group.batch = EventBatch::new(alloc);
     replaced_or_late(alloc, host, store, body)
 }
 
-/// Ends the open group at the end of the input: its replies can be sent.
-pub(crate) fn finish<D: Disk>(
+/// Commits the open group when the input has ended: its replies can then be sent. Without replies
+/// it does nothing.
+pub(crate) fn flush_held<D: Disk>(
     alloc: Global,
-    host: &Host,
+    host: &Machine,
     store: &mut Store<D>,
     open_group: &mut OpenGroup,
 )
     requires ready { CanTake store.old open_group.old }
-    ensures ended { IsEnded requests open_group.new.replies.items (grouping_of store.old host.now open_group.old)
+    ensures ended { IsEnded server_machine open_group.new.replies.items (grouping_of store.old host.now open_group.old)
         (cleared_grouping store.new host.now open_group.new) }
     ensures cleared { CanTakeCleared store.new open_group.new }
     ensures shape { store.new.bank.shape ≡ store.old.bank.shape }
@@ -220,13 +227,13 @@ pub(crate) fn finish<D: Disk>(
     if open_group.replies.is_empty() {
         return;
     }
-    settle(alloc, host, store, open_group);
+    commit_group(alloc, host, store, open_group);
 }
 
-/// Executes one request, and returns the replies of a group that has ended.
+/// Executes one request, and appends to `out` the replies of a group that has ended.
 fn take_on<D: Disk>(
     alloc: Global,
-    host: &mut Host,
+    host: &mut Machine,
     store: &mut Store<D>,
     open_group: &mut OpenGroup,
     body: &[u8],
@@ -235,7 +242,7 @@ fn take_on<D: Disk>(
     requires ready { CanTake store.old open_group.old }
     requires places { length out.old.items + length open_group.old.replies.items < vec_capacity out.old }
     requires banks { HasBanks store.old host.old }
-    ensures taken { HandsOut (λ told. IsTaken requests open_group.old.size body.now told (grouping_of store.old host.old open_group.old)
+    ensures taken { HandsOut (λ told. IsAdmitted server_machine open_group.old.size body.now told (grouping_of store.old host.old open_group.old)
         (grouping_of store.new host.new open_group.new)) out.old.items out.new.items }
     ensures ready { CanTake store.new open_group.new }
     ensures banks { HasBanks store.new host.new }
@@ -248,30 +255,30 @@ fn take_on<D: Disk>(
         hand_out(&mut open_group.replies, out);
         return;
     }
-    if take(alloc, host, store, open_group, body) {
+    if admit(alloc, host, store, open_group, body) {
         hand_out(&mut open_group.replies, out);
     }
 }
 
-/// Ends the open group at the end of the input, and returns its replies, too.
+/// Commits the open group when the input has ended, and appends its replies to `out`.
 fn finish_on<D: Disk>(
     alloc: Global,
-    host: &Host,
+    host: &Machine,
     store: &mut Store<D>,
     open_group: &mut OpenGroup,
     out: &mut Vec<Reply>,
 )
     requires ready { CanTake store.old open_group.old }
     requires places { length out.old.items + length open_group.old.replies.items ≤ vec_capacity out.old }
-    ensures ended { HandsOut (λ told. IsEnded requests told (grouping_of store.old host.now open_group.old) (grouping_of store.new host.now open_group.new))
+    ensures ended { HandsOut (λ told. IsEnded server_machine told (grouping_of store.old host.now open_group.old) (grouping_of store.new host.now open_group.new))
         out.old.items out.new.items }
     ensures shape { store.new.bank.shape ≡ store.old.bank.shape }
 {
-    finish(alloc, host, store, open_group);
+    flush_held(alloc, host, store, open_group);
     hand_out(&mut open_group.replies, out);
 }
 
-/// Moves replies to those that are returned.
+/// Moves `replies` to the end of `out`, which has capacity for them.
 fn hand_out(replies: &mut Vec<Reply>, out: &mut Vec<Reply>)
     requires { length out.old.items + length replies.old.items ≤ vec_capacity out.old }
     ensures out { out.new.items ≡ out.old.items ++ replies.old.items }
@@ -282,17 +289,18 @@ fn hand_out(replies: &mut Vec<Reply>, out: &mut Vec<Reply>)
     out.append(replies).unwrap();
 }
 
-/// Answers bodies in groups of this size. Err: an allocation failed before anything was done.
+/// Returns the replies to `bodies`, in order, which are committed in groups of up to `group`. Err:
+/// an allocation failed before anything was done.
 pub(crate) fn run_over<D: Disk>(
     alloc: Global,
-    host: &mut Host,
+    host: &mut Machine,
     store: &mut Store<D>,
     bodies: &[Vec<u8>],
     group: usize,
 ) -> Result<Vec<Reply>, AllocError>
     requires positive { 1 ≤ group }
     requires banks { HasBanks store.old host.old }
-    ensures served { store.old.stopped ≡ false → IfOk result (λ replies. IsServed requests group store.old store.new host.old host.new
+    ensures served { store.old.stopped ≡ false → IfOk result (λ replies. IsServed server_machine group store.old store.new host.old host.new
         (map (λ b. b.items) bodies.now) replies.items) }
     ensures late { store.old.stopped ≡ true → IfOk result (λ replies. AnswersAfterFault store.old store.new host.old host.new
         (map (λ b. b.items) bodies.now) replies.items) }

@@ -1,35 +1,34 @@
 //! A turn over a store: its event is held in a batch until its group ends.
 ghost use Rattle.std.specs.Prelude.{◌≡◌, ◌++◌, List, ℕ, false, IfOk, IsErr, IsErrOf, OnErr, OnOk};
-ghost use Rattle.oa_image.specs.Events.{event_image};
-ghost use Rattle.oa_keeper.specs.Holding.{IsOpenFor};
-ghost use Rattle.oa_record.specs.Replacement.{is_replacement};
+ghost use Rattle.oa_image.specs.promise.Events.{event_image};
+ghost use Rattle.oa_store.specs.Holding.{IsOpenFor};
+ghost use Rattle.oa_record.specs.promise.Replacement.{is_replacement};
 ghost use Rattle.oa_server.specs.OpenGroups.{CallsForCheckpoint, CallsForRoom, CallsWhereDue, CanBeMade, HasBanks, HoldsOn, IsAdded};
 ghost use Rattle.oa_server.specs.OpenGroups.{IsCutOff, MakesWay};
-ghost use Rattle.oa_server.specs.Requests.{IsHeldBack};
+ghost use Rattle.oa_server.specs.ServerMachine.{IsHeldBack};
 ghost use Rattle.oa_server.specs.declared.fault.HoldFault.{HoldFault};
 ghost use Rattle.oa_turn.specs.Changes.{MakesChange};
-ghost use Rattle.oa_turn.specs.Events.{held_of};
+ghost use Rattle.oa_turn.specs.promise.Events.{held_of};
 ghost use Rattle.oa_turn.specs.Plans.{IsPlanned};
 
 use crate::fault::HoldFault;
 use oa_disk::Disk;
 use oa_image::SizedEvent;
 use oa_image::laws::is_event;
-use oa_keeper::{Batch, DeviceFailed, make_room};
 use oa_model::HResult;
 use oa_record::Reply;
 use oa_record::laws::one_request;
-use oa_store::Store;
-use oa_turn::{Host, Plan, Planned};
+use oa_store::{DeviceFailed, EventBatch, Store, checkpoint_if_due};
+use oa_turn::{Machine, Plan, Planned};
 use std::alloc::Global;
 
-/// Executes one turn over a store. Its event is added to the batch; before the first event of a batch, a checkpoint
-/// is made if one is due. Err: the checkpoint failed.
+/// Executes one turn over a store, and returns its reply. Its event is added to `batch`. Before the
+/// first event of a batch, a checkpoint is made if one is due. Err: the checkpoint failed.
 pub(crate) fn turn_held<D: Disk>(
     alloc: Global,
-    host: &mut Host,
+    host: &mut Machine,
     store: &mut Store<D>,
-    batch: &mut Batch,
+    batch: &mut EventBatch,
     body: &[u8],
 ) -> Result<Reply, DeviceFailed>
     requires plain { is_replacement body.now ≡ false }
@@ -49,12 +48,14 @@ pub(crate) fn turn_held<D: Disk>(
     }
 }
 
-/// Makes a planned change in memory, holds its event, and returns the reply.
+/// Makes a planned change in memory, adds its event to `batch`, and returns the reply. If an
+/// allocation fails, nothing has changed, and the reply is E_OUTOFMEMORY. Err: the checkpoint
+/// failed.
 fn hold<D: Disk>(
     alloc: Global,
-    host: &mut Host,
+    host: &mut Machine,
     store: &mut Store<D>,
-    batch: &mut Batch,
+    batch: &mut EventBatch,
     planned: Planned,
 ) -> Result<Reply, DeviceFailed>
     requires change { CanBeMade host.old planned.event }
@@ -81,13 +82,13 @@ fn hold<D: Disk>(
     }
 }
 
-/// Makes a change that is allowed, and holds its event in a batch, after a checkpoint if one is due: that has the
-/// table before the change. After it memory is allocated for the event's bytes and for the table. `Device`: the
-/// checkpoint failed.
+/// Makes a change that is allowed, and adds its event to `batch`. If a checkpoint is due, it is
+/// made first, with the table before the change. Errors: `Device` if the checkpoint failed;
+/// `Memory` if an allocation failed after it. The table and the batch have then not changed.
 fn hold_change<D: Disk>(
-    host: &mut Host,
+    host: &mut Machine,
     store: &mut Store<D>,
-    batch: &mut Batch,
+    batch: &mut EventBatch,
     event: SizedEvent,
 ) -> Result<(), HoldFault>
     requires change { CanBeMade host.old event }
@@ -102,14 +103,18 @@ fn hold_change<D: Disk>(
     ensures way { MakesWay batch.old (held_of host.old) store.old store.new result }
 {
     is_event(event.as_event());
-    make_room(store, host.table(), batch)?;
+    checkpoint_if_due(store, host.table(), batch)?;
     add_change(host, batch, event)?;
     Ok(())
 }
 
-/// Makes a change that is allowed, and adds its event to the batch. It allocates first for the event's bytes, then
-/// for the table.
-fn add_change(host: &mut Host, batch: &mut Batch, event: SizedEvent) -> Result<(), HoldFault>
+/// Makes a change that is allowed, and adds its event to `batch`. It allocates first for the
+/// event's bytes, then for the table. Err: `Memory`, and nothing has changed.
+fn add_change(
+    host: &mut Machine,
+    batch: &mut EventBatch,
+    event: SizedEvent,
+) -> Result<(), HoldFault>
     requires { CanBeMade host.old event }
     ensures change { MakesChange event host.old host.new result }
     ensures event { OnOk result (batch.new ≡ batch.old ++ event_image event) }

@@ -2,32 +2,32 @@
 ghost use Rattle.std.specs.Prelude.{◌≡◌, [], false, true, List, ℕ, IfNone, IfSome, map};
 ghost use Rattle.oa_decision.specs.declared.decision.LockChange.{LockChange as AChange};
 ghost use Rattle.oa_decision.specs.declared.decision.LockChange.TheVariants.{Lock as ALock, Unlock as AnUnlock};
-ghost use Rattle.oa_owners.specs.ClientLocks.{without_one};
-ghost use Rattle.oa_owners.specs.Counts.{name_of};
-ghost use Rattle.oa_owners.specs.Kept.{copies};
-ghost use Rattle.oa_owners.specs.ClientLocks.{ClientLock as AClientLock};
-ghost use Rattle.oa_record.specs.Replacement.{is_replacement};
-ghost use Rattle.oa_server.specs.Sharing.{IsLockTurn, TurnsFor, behind_all, behind_end, shared, taken_back};
-ghost use Rattle.oa_turn.specs.Events.{HasEvent, held_of, is_done};
-ghost use Rattle.oa_turn.specs.Locking.{AsksLock};
-ghost use Rattle.oa_turn.specs.Plans.{HoldsSame};
-ghost use Rattle.oa_turn.specs.Turns.{Ordinary};
+ghost use Rattle.oa_turn.specs.promise.ClientLocks.{without_one, ClientLock as AClientLock};
+ghost use Rattle.oa_turn.specs.Counts.{locked_name};
+ghost use Rattle.oa_turn.specs.Kept.{copies};
+ghost use Rattle.oa_record.specs.promise.Replacement.{is_replacement};
+ghost use Rattle.oa_server.specs.Sharing.{IsLockTurn};
+ghost use Rattle.oa_server.specs.promise.SharedMachine.{TurnsFor, all_released, behind_end, shared, taken_back};
+ghost use Rattle.oa_turn.specs.promise.Events.{HasEvent, held_of, is_done};
+ghost use Rattle.oa_turn.specs.promise.Locking.{AsksLock};
+ghost use Rattle.oa_turn.specs.promise.Plans.{HoldsSame};
+ghost use Rattle.oa_turn.specs.promise.Turns.{Ordinary};
 
 use crate::open_group::bare_reply;
 use oa_decision::LockChange;
 use oa_model::HResult;
-use oa_owners::{CellKey, ClientCells, Owners};
 use oa_record::Reply;
 use oa_record::laws::{a_replacement_is_no_request, one_request, refused_asks_nothing};
 use oa_table::CellName;
-use oa_turn::{Host, Plan};
+use oa_turn::{CellKey, ClientCells, LockTable, Machine, Plan};
 use std::alloc::Global;
 
-/// Executes one turn in memory for a client's body that does not replace the library.
+/// Executes one turn in memory for a body of the client with this number, and returns the reply.
+/// The body does not replace the library.
 pub(crate) fn turn_for(
     alloc: Global,
-    host: &mut Host,
-    owners: &mut Owners,
+    host: &mut Machine,
+    owners: &mut LockTable,
     client: u32,
     body: &[u8],
 ) -> Reply
@@ -41,8 +41,9 @@ pub(crate) fn turn_for(
     }
 }
 
-/// Executes one turn in memory for a request of any client to replace the library: no lock changes its owner.
-pub(crate) fn replace_for(host: &mut Host, body: &[u8]) -> Reply
+/// Executes in memory a request of any client to replace the library, and returns the reply. No
+/// lock changes its owner.
+pub(crate) fn replace_for(host: &mut Machine, body: &[u8]) -> Reply
     requires kind { is_replacement body.now ≡ true }
     ensures turn { (client : ℕ) (locks : List AClientLock) → TurnsFor client body.now result (shared host.old locks) (shared host.new locks) }
     ensures bank { host.new.bank ≡ host.old.bank }
@@ -52,12 +53,13 @@ pub(crate) fn replace_for(host: &mut Host, body: &[u8]) -> Reply
     host.replace(body)
 }
 
-/// Executes the turn of a client's body that changes a lock; None, with nothing done, for any other body. A client
-/// can release only its own locks.
+/// Executes a body that changes a lock, for the client with this number, and returns the reply.
+/// None, with nothing done, for any other body. A client can release only its own locks. If an
+/// allocation fails, the reply is E_OUTOFMEMORY.
 pub(crate) fn lock_turn(
     alloc: Global,
-    host: &mut Host,
-    owners: &mut Owners,
+    host: &mut Machine,
+    owners: &mut LockTable,
     client: u32,
     body: &[u8],
 ) -> Option<Reply>
@@ -76,11 +78,12 @@ pub(crate) fn lock_turn(
     }
 }
 
-/// Executes a LOCK. If the allocation for its owner fails, the lock is released.
+/// Executes a LOCK, and makes the client its owner. If the allocation for that fails, the lock is
+/// released, and the reply is E_OUTOFMEMORY.
 fn lock_for(
     alloc: Global,
-    host: &mut Host,
-    owners: &mut Owners,
+    host: &mut Machine,
+    owners: &mut LockTable,
     client: u32,
     name: CellName,
     body: &[u8],
@@ -102,11 +105,11 @@ fn lock_for(
     bare_reply(alloc, body, HResult::E_OUTOFMEMORY)
 }
 
-/// Executes an UNLOCK.
+/// Executes an UNLOCK. If the client has no lock of the cell, the reply is E_UNEXPECTED.
 fn unlock_for(
     alloc: Global,
-    host: &mut Host,
-    owners: &mut Owners,
+    host: &mut Machine,
+    owners: &mut LockTable,
     client: u32,
     cell: &CellKey,
     body: &[u8],
@@ -131,18 +134,18 @@ fn is_done(reply: &Reply) -> bool
     reply.code().0 == 0
 }
 
-/// Removes the owner of a lock that was released.
-fn give_back(owners: &mut Owners, done: bool, client: u32, cell: &CellKey)
+/// Removes one lock of the cell from the client's, if `done`: the lock was released.
+fn give_back(owners: &mut LockTable, done: bool, client: u32, cell: &CellKey)
     ensures given { done ≡ true → owners.new ≡ without_one client cell.now owners.old }
     ensures kept { done ≡ false → owners.new ≡ owners.old }
 {
     if done {
-        owners.take_one(client, cell);
+        owners.release_one(client, cell);
     }
 }
 
-/// Executes the turn of a body that changes a lock, for any client.
-fn relock(alloc: Global, host: &mut Host, body: &[u8]) -> Reply
+/// Executes the turn of a body that changes a lock, for any client, and returns the reply.
+fn relock(alloc: Global, host: &mut Machine, body: &[u8]) -> Reply
     ensures turn { (change : AChange) → AsksLock host.old body.now change → Ordinary host.old body.now result host.new }
     ensures made { (change : AChange) → AsksLock host.old body.now change → HasEvent host.old body.now result [] }
     ensures same { (change : AChange) → AsksLock host.old body.now change → HoldsSame host.old host.new }
@@ -155,18 +158,18 @@ fn relock(alloc: Global, host: &mut Host, body: &[u8]) -> Reply
     }
 }
 
-/// Releases all locks of a client that ends.
-pub(crate) fn let_go(host: &mut Host, owners: &mut Owners, client: u32)
+/// Releases all locks of the client with this number, which ends.
+pub(crate) fn let_go(host: &mut Machine, owners: &mut LockTable, client: u32)
     ensures state { shared host.new owners.new ≡ behind_end client (shared host.old owners.old) }
     ensures same { held_of host.new ≡ held_of host.old }
     ensures bank { host.new.bank ≡ host.old.bank }
 {
-    let cells = owners.take_all(client);
+    let cells = owners.release_all(client);
     take_back_cells(host, &cells);
 }
 
 /// Releases a client's locks.
-fn take_back_cells(host: &mut Host, cells: &ClientCells)
+fn take_back_cells(host: &mut Machine, cells: &ClientCells)
     ensures { host.new ≡ taken_back cells.now host.old }
 {
     'cells: for (cell, count) in cells.counts() {
@@ -175,7 +178,7 @@ fn take_back_cells(host: &mut Host, cells: &ClientCells)
 }
 
 /// Releases `count` locks of a cell.
-fn take_back_times(host: &mut Host, name: &CellName, count: u32)
+fn take_back_times(host: &mut Machine, name: &CellName, count: u32)
     ensures { host.new ≡ taken_back (copies count name.now []) host.old }
 {
     'times: for _ in 0..count {
@@ -183,19 +186,19 @@ fn take_back_times(host: &mut Host, name: &CellName, count: u32)
     }
 }
 
-/// Releases all locks that clients still have when a session ends.
-pub(crate) fn let_all_go(alloc: Global, host: &mut Host, owners: &mut Owners)
-    ensures state { shared host.new owners.new ≡ behind_all (shared host.old owners.old) }
+/// Releases all locks that clients still have when a session ends. After it no lock has an owner.
+pub(crate) fn let_all_go(alloc: Global, host: &mut Machine, owners: &mut LockTable)
+    ensures state { shared host.new owners.new ≡ all_released (shared host.old owners.old) }
     ensures none { owners.new ≡ [] }
     ensures bank { host.new.bank ≡ host.old.bank }
 {
     take_back_each(host, owners);
-    *owners = Owners::new(alloc);
+    *owners = LockTable::new(alloc);
 }
 
 /// Releases the locks of all clients.
-fn take_back_each(host: &mut Host, owners: &Owners)
-    ensures { host.new ≡ taken_back (map name_of owners.now) host.old }
+fn take_back_each(host: &mut Machine, owners: &LockTable)
+    ensures { host.new ≡ taken_back (map locked_name owners.now) host.old }
 {
     'clients: for (_client, cells) in owners.clients() {
         take_back_cells(host, cells);

@@ -1,22 +1,22 @@
 //! The open group of a server over a store.
 ghost use Rattle.std.specs.Prelude.{◌≡◌, ◌<◌, ◌≤◌, [], None, IfOk, false, length, map, vec_capacity};
-ghost use Rattle.oa_decision.specs.Decided.{refusal};
-ghost use Rattle.oa_groups.specs.Groups.{fills};
-ghost use Rattle.oa_model.specs.Limits.{group_bytes};
-ghost use Rattle.oa_record.specs.Asks.{tag_at};
-ghost use Rattle.oa_server.specs.Requests.{withdrawn};
+ghost use Rattle.oa_decision.specs.promise.Decided.{refusal};
+ghost use Rattle.oa_group_commit.specs.promise.Groups.{fills};
+ghost use Rattle.oa_model.specs.promise.Limits.{group_bytes};
+ghost use Rattle.oa_record.specs.promise.Asks.{tag_at};
+ghost use Rattle.oa_server.specs.promise.ServerMachine.{aborted_reply};
 
-use oa_groups::is_full;
-use oa_keeper::Batch;
+use oa_group_commit::is_full;
 use oa_model::HResult;
 use oa_record::{Reply, tag_of};
+use oa_store::EventBatch;
 use std::alloc::{AllocError, Global};
 
 /// The open group: its events, which are not committed yet, and its replies, which are held back.
 #[derive(Drop)]
 pub(crate) struct OpenGroup {
     /// The events.
-    pub batch: Batch,
+    pub batch: EventBatch,
     /// The replies.
     pub replies: Vec<Reply>,
     /// The greatest number of requests of a group.
@@ -24,7 +24,8 @@ pub(crate) struct OpenGroup {
 }
 
 impl OpenGroup {
-    /// Makes an empty group, with capacity for its replies.
+    /// Makes an empty group of at most `size` requests, with capacity for their replies. Err: the
+    /// allocation of that capacity failed.
     pub(crate) fn new(alloc: Global, size: usize) -> Result<OpenGroup, AllocError>
         ensures replies { IfOk result (λ open_group. open_group.replies.items ≡ []) }
         ensures places { IfOk result (λ open_group. size ≤ vec_capacity open_group.replies) }
@@ -33,7 +34,7 @@ impl OpenGroup {
     {
         let replies = Vec::with_capacity(alloc, size)?;
         Ok(OpenGroup {
-            batch: Batch::new(alloc),
+            batch: EventBatch::new(alloc),
             replies,
             size,
         })
@@ -46,13 +47,13 @@ impl OpenGroup {
         ensures size { result.size ≡ 0 }
     {
         OpenGroup {
-            batch: Batch::new(alloc),
+            batch: EventBatch::new(alloc),
             replies: Vec::new(alloc),
             size: 0,
         }
     }
 
-    /// Returns whether the group is full.
+    /// Returns whether the group is full: by its number of requests, or by the bytes of its events.
     pub(crate) fn is_full(&self) -> bool
         ensures fills { result ≡ fills self.now.size (length self.now.replies.items) (length self.now.batch) }
         ensures few { result ≡ false → length self.now.batch < group_bytes }
@@ -62,25 +63,26 @@ impl OpenGroup {
     }
 }
 
-/// Returns the reply to a body with only a code. Allocates nothing.
+/// Returns a reply with the tag of `body`, this code and no fields. Allocates nothing.
 pub(crate) fn bare_reply(alloc: Global, body: &[u8], code: HResult) -> Reply
     ensures { result ≡ refusal (tag_at body.now) code None }
 {
     Reply::bare(alloc, tag_of(body), code, None)
 }
 
-/// Turns the replies of a group that could not be committed into faults. Allocates nothing.
-pub(crate) fn withdraw(alloc: Global, replies: &mut Vec<Reply>)
-    ensures items { replies.new.items ≡ map withdrawn replies.old.items }
+/// Replaces each reply of a group that could not be committed by STG_E_WRITEFAULT, with the same
+/// tag. Allocates nothing.
+pub(crate) fn fail_replies(alloc: Global, replies: &mut Vec<Reply>)
+    ensures items { replies.new.items ≡ map aborted_reply replies.old.items }
     ensures len { length replies.new.items ≡ length replies.old.items }
     ensures places { vec_capacity replies.new ≡ vec_capacity replies.old }
 {
     take_back(alloc, replies);
 }
 
-/// Replaces each reply by the fault.
+/// Replaces each reply by STG_E_WRITEFAULT, with the same tag.
 fn take_back(alloc: Global, replies: &mut [Reply])
-    ensures { replies.new ≡ map withdrawn replies.old }
+    ensures { replies.new ≡ map aborted_reply replies.old }
 {
     for reply in replies.iter_mut() {
         *reply = Reply::bare(alloc, reply.tag(), HResult::STG_E_WRITEFAULT, None);

@@ -1,27 +1,29 @@
 //! REPLACE LIBRARY over a store.
 ghost use Rattle.std.specs.Prelude.{◌≡◌, false, true, IfOk, OnErr, OnOk};
-ghost use Rattle.oa_record.specs.Replies.{ReplyValue};
-ghost use Rattle.oa_server.specs.Answers.{ReplacesInStore};
+ghost use Rattle.oa_record.specs.promise.Replies.{ReplyValue};
+ghost use Rattle.oa_server.specs.promise.ServerMachine.{ReplacesInStore};
 ghost use Rattle.oa_server.specs.OpenGroups.{HasBanks};
-ghost use Rattle.oa_turn.specs.Events.{is_done};
-ghost use Rattle.oa_turn.specs.Replacing.{Replacement};
+ghost use Rattle.oa_turn.specs.promise.Events.{is_done};
+ghost use Rattle.oa_turn.specs.promise.Replacing.{Replacement};
 
 use crate::open_group::bare_reply;
 use crate::starting::text_of;
 use oa_disk::Disk;
-use oa_keeper::DeviceFailed;
 use oa_model::HResult;
 use oa_record::Reply;
-use oa_store::{Store, WriteFault};
-use oa_turn::{Host, ReplacementPlan};
+use oa_store::{DeviceFailed, Store, WriteFault};
+use oa_turn::{Machine, ReplacementPlan};
 use std::alloc::Global;
 
-/// Executes a body of opcode 12 over a store as a group of its own, while no group is open. The store switches to its
-/// other bank with the new library; if the body is refused, the device is not called. Err: the device has failed, and
-/// the store may have either library; the state in memory is the one after the turn.
+/// Executes a body of opcode 12 over a store as a group of its own, while no group is open, and
+/// returns the reply. The store switches to its other bank with the new library. If the body is
+/// refused, the device is not called.
+///
+/// Err: the device has failed, and the store may have either library. The state in memory is the
+/// one after the turn.
 pub(crate) fn replace_over<D: Disk>(
     alloc: Global,
-    host: &mut Host,
+    host: &mut Machine,
     store: &mut Store<D>,
     body: &[u8],
 ) -> Result<Reply, DeviceFailed>

@@ -1,40 +1,40 @@
 //! Sessions over streams.
 ghost use Rattle.std.specs.Prelude.{◌≡◌, ◌≤◌, [], IfOk, OnErr, OnOk, false, map, vec_capacity};
 ghost use Rattle.oa_model.specs.Limits.{max_group};
-ghost use Rattle.oa_stream.specs.Ahead.{ahead};
+ghost use Rattle.oa_stream.specs.BufferedSource.{ahead};
 ghost use Rattle.oa_stream.specs.Sink.{Puts};
 ghost use Rattle.oa_frame.specs.Beginnings.{AreUnbroken, HoldLongest};
-ghost use Rattle.oa_frame.specs.Framings.{frames, hex_lines, records};
-ghost use Rattle.oa_frame.specs.Sessions.{spelled_all};
-ghost use Rattle.oa_record.specs.Replacement.{is_replacement};
-ghost use Rattle.oa_record.specs.Replies.{reply_record};
-ghost use Rattle.oa_server.specs.Talks.{HasTalked, HasTalkedInMemory, TakesBodies, ended_written, taken_written};
+ghost use Rattle.oa_frame.specs.promise.Framings.{frames, hex_lines, records};
+ghost use Rattle.oa_frame.specs.promise.Sessions.{spelled_all};
+ghost use Rattle.oa_record.specs.promise.Replacement.{is_replacement};
+ghost use Rattle.oa_record.specs.promise.Replies.{reply_record};
+ghost use Rattle.oa_server.specs.Talks.{HasTalkedInMemory, IsStoreSession, TakesBodies, ended_written, taken_written};
 ghost use Rattle.oa_server.specs.Storages.{InMemory};
 
 use crate::Server;
-use crate::engine::Engine;
-use crate::grouping::{finish, take, take_alone};
+use crate::engine::ServerState;
+use crate::grouping::{admit, admit_barrier, flush_held};
 use crate::open_group::OpenGroup;
 use crate::storage::Storage;
 use oa_disk::Disk;
 use oa_frame::{Framing, Responder, Served, put_reply, serve};
 use oa_model::{HResult, MAX_LINE_CHARACTERS, MAX_REQUEST_BYTES};
 use oa_record::{Reply, is_replacement};
-use oa_stream::{Ahead, Sink, Source, Unwritten};
+use oa_stream::{BufferedSource, Sink, Source, Unwritten};
 use std::alloc::AllocError;
 
-/// In memory each reply is written at once. Over a store it is held until its group ends, and then all replies of the
-/// group are written.
-impl<D: Disk> Responder for Engine<D> {
+/// In memory each reply is written at once. Over a store it is held until its group ends, and then
+/// all replies of the group are written.
+impl<D: Disk> Responder for ServerState<D> {
     ghost ready = { TakesBodies };
 
     ghost turn = { taken_written };
 
     ghost ends = { ended_written };
 
-    ghost alone = { is_replacement };
+    ghost barrier = { is_replacement };
 
-    fn comes_alone(&self, body: &[u8]) -> bool {
+    fn is_barrier(&self, body: &[u8]) -> bool {
         is_replacement(body)
     }
 
@@ -50,7 +50,7 @@ impl<D: Disk> Responder for Engine<D> {
                 put_reply(framing, writer, &reply.head(), reply.body())
             }
             Storage::Disk(store) => {
-                if !take(
+                if !admit(
                     self.alloc,
                     &mut self.host,
                     store,
@@ -64,7 +64,7 @@ impl<D: Disk> Responder for Engine<D> {
         }
     }
 
-    fn respond_alone<W: Sink>(
+    fn respond_barrier<W: Sink>(
         &mut self,
         framing: Framing,
         body: &[u8],
@@ -76,7 +76,7 @@ impl<D: Disk> Responder for Engine<D> {
                 put_reply(framing, writer, &reply.head(), reply.body())
             }
             Storage::Disk(store) => {
-                let reply = take_alone(
+                let reply = admit_barrier(
                     self.alloc,
                     &mut self.host,
                     store,
@@ -88,28 +88,28 @@ impl<D: Disk> Responder for Engine<D> {
         }
     }
 
-    fn finish<W: Sink>(&mut self, framing: Framing, writer: &mut W) -> Result<(), Unwritten> {
+    fn flush_held<W: Sink>(&mut self, framing: Framing, writer: &mut W) -> Result<(), Unwritten> {
         match &mut self.storage {
             Storage::Memory(_) => Ok(()),
             Storage::Disk(store) => {
-                finish(self.alloc, &self.host, store, &mut self.desk.open_group);
+                flush_held(self.alloc, &self.host, store, &mut self.desk.open_group);
                 put_held(framing, writer, &mut self.desk.open_group.replies)
             }
         }
     }
 
-    fn abandon(&mut self) {
+    fn drop_held(&mut self) {
         match &mut self.storage {
             Storage::Memory(_) => {}
             Storage::Disk(store) => {
-                finish(self.alloc, &self.host, store, &mut self.desk.open_group);
+                flush_held(self.alloc, &self.host, store, &mut self.desk.open_group);
                 self.desk.open_group.replies.clear();
             }
         }
     }
 }
 
-/// Writes the held replies, and drops them.
+/// Writes the held replies, and drops them. Err: the writer failed; they are dropped, too.
 fn put_held<W: Sink>(
     framing: Framing,
     writer: &mut W,
@@ -126,7 +126,7 @@ fn put_held<W: Sink>(
     put
 }
 
-/// Writes replies one after another.
+/// Writes replies one after another. Err: the writer failed, and no later reply is written.
 fn put_replies<W: Sink>(
     framing: Framing,
     writer: &mut W,
@@ -142,23 +142,25 @@ fn put_replies<W: Sink>(
 }
 
 impl<D: Disk> Server<D> {
-    /// Serves one client over lines of hexadecimal digits: one line for each request and for each reply. An empty
-    /// line ends the session as Closed, a line above 8,388,608 characters as TooLong.
+    /// Serves one client over lines of hexadecimal digits: one line for each request and for each
+    /// reply. Returns the number of answered requests, and why the session ended. An empty line
+    /// ends the session as `Closed`, a line above 8,388,608 characters as `TooLong`.
     ///
-    /// Over a store, the changes of up to `group` requests (1 to 1,024) are committed together, and their replies are
-    /// written after that; REPLACE LIBRARY ends the open group, and is a group of its own. In memory each reply is
-    /// written before the next line is read. At the end the open group is committed and its replies are written. The
-    /// writer is flushed before each wait for more input. Err: an allocation failed before anything was read.
+    /// Over a store, the changes of up to `group` requests (1 to 1,024) are committed together, and
+    /// their replies are written after that. REPLACE LIBRARY ends the open group, and is a group of
+    /// its own. In memory each reply is written before the next line is read. At the end the open
+    /// group is committed and its replies are written. The writer is flushed before each wait for
+    /// more input. Err: an allocation failed before anything was read.
     pub fn serve_hex<R: Source + Drop, W: Sink>(
         &mut self,
-        reader: &mut Ahead<R>,
+        reader: &mut BufferedSource<R>,
         writer: &mut W,
         group: usize,
     ) -> Result<Served, AllocError>
         requires positive { 1 ≤ group }
         requires small { group ≤ max_group }
         requires unbroken { AreUnbroken (ahead R.input reader.old) (W.out writer.old) }
-        ensures session { IfOk result (HasTalked hex_lines (ahead R.input reader.old) (ahead R.input reader.new)
+        ensures session { IfOk result (IsStoreSession hex_lines (ahead R.input reader.old) (ahead R.input reader.new)
             (W.out writer.old) (W.out writer.new) group self.old.engine self.new.engine) }
         ensures memory { InMemory self.old.engine.storage → IfOk result (HasTalkedInMemory hex_lines (ahead R.input reader.old)
             (ahead R.input reader.new) (W.out writer.old) (W.out writer.new) self.old.engine.host self.new.engine.host) }
@@ -169,19 +171,23 @@ impl<D: Disk> Server<D> {
         session_with(&mut self.engine, Framing::HexLines, reader, writer, group)
     }
 
-    /// Serves one client over records: each request and each reply follows its length in bytes, a little-endian u32.
-    /// The length of a request is at most 4,194,304; a greater one ends the session as TooLong, and 0 as Closed.
-    /// Groups and flushes are as in `serve_hex`. Err: an allocation failed before anything was read.
+    /// Serves one client over records: each request and each reply follows its length in bytes, a
+    /// little-endian u32. Returns the number of answered requests, and why the session ended. The
+    /// length of a request is at most 4,194,304; a greater one ends the session as `TooLong`, and 0
+    /// as `Closed`.
+    ///
+    /// Groups of at most `group` requests and flushes are as in `serve_hex`. Err: an allocation
+    /// failed before anything was read.
     pub fn serve<R: Source + Drop, W: Sink>(
         &mut self,
-        reader: &mut Ahead<R>,
+        reader: &mut BufferedSource<R>,
         writer: &mut W,
         group: usize,
     ) -> Result<Served, AllocError>
         requires positive { 1 ≤ group }
         requires small { group ≤ max_group }
         requires unbroken { AreUnbroken (ahead R.input reader.old) (W.out writer.old) }
-        ensures session { IfOk result (HasTalked records (ahead R.input reader.old) (ahead R.input reader.new)
+        ensures session { IfOk result (IsStoreSession records (ahead R.input reader.old) (ahead R.input reader.new)
             (W.out writer.old) (W.out writer.new) group self.old.engine self.new.engine) }
         ensures memory { InMemory self.old.engine.storage → IfOk result (HasTalkedInMemory records (ahead R.input reader.old)
             (ahead R.input reader.new) (W.out writer.old) (W.out writer.new) self.old.engine.host self.new.engine.host) }
@@ -193,18 +199,19 @@ impl<D: Disk> Server<D> {
     }
 }
 
-/// Serves one client in either framing. It allocates an open group, and buffers for the longest line and the longest
-/// body, and frees them at the end.
+/// Serves one client in either framing. It allocates an open group, and buffers for the longest
+/// line and the longest body, and frees them at the end. Err: one of these allocations failed
+/// before anything was read.
 fn session_with<D: Disk, R: Source + Drop, W: Sink>(
-    engine: &mut Engine<D>,
+    engine: &mut ServerState<D>,
     framing: Framing,
-    reader: &mut Ahead<R>,
+    reader: &mut BufferedSource<R>,
     writer: &mut W,
     group: usize,
 ) -> Result<Served, AllocError>
     requires positive { 1 ≤ group }
     requires unbroken { AreUnbroken (ahead R.input reader.old) (W.out writer.old) }
-    ensures session { IfOk result (HasTalked (frames framing) (ahead R.input reader.old) (ahead R.input reader.new)
+    ensures session { IfOk result (IsStoreSession (frames framing) (ahead R.input reader.old) (ahead R.input reader.new)
         (W.out writer.old) (W.out writer.new) group engine.old engine.new) }
     ensures memory { InMemory engine.old.storage → IfOk result (HasTalkedInMemory (frames framing) (ahead R.input reader.old)
         (ahead R.input reader.new) (W.out writer.old) (W.out writer.new) engine.old.host engine.new.host) }
@@ -223,12 +230,12 @@ fn session_with<D: Disk, R: Source + Drop, W: Sink>(
     Ok(served)
 }
 
-/// Serves one client with all memory allocated: an empty group with capacity for its replies, and buffers for a line
-/// and a body.
+/// Serves one client with all memory allocated: an empty group with capacity for its replies, and
+/// buffers for a line and a body.
 fn talk<D: Disk, R: Source + Drop, W: Sink>(
-    engine: &mut Engine<D>,
+    engine: &mut ServerState<D>,
     framing: Framing,
-    reader: &mut Ahead<R>,
+    reader: &mut BufferedSource<R>,
     writer: &mut W,
     line: &mut Vec<u8>,
     body: &mut Vec<u8>,
@@ -239,7 +246,7 @@ fn talk<D: Disk, R: Source + Drop, W: Sink>(
     requires batch { engine.old.desk.open_group.batch ≡ [] }
     requires buffers { HoldLongest (vec_capacity line.now) (vec_capacity body.now) }
     requires unbroken { AreUnbroken (ahead R.input reader.old) (W.out writer.old) }
-    ensures session { HasTalked (frames framing) (ahead R.input reader.old) (ahead R.input reader.new)
+    ensures session { IsStoreSession (frames framing) (ahead R.input reader.old) (ahead R.input reader.new)
         (W.out writer.old) (W.out writer.new) engine.old.desk.open_group.size engine.old engine.new result }
     ensures memory { InMemory engine.old.storage → HasTalkedInMemory (frames framing) (ahead R.input reader.old) (ahead R.input reader.new)
         (W.out writer.old) (W.out writer.new) engine.old.host engine.new.host result }

@@ -1,40 +1,41 @@
 //! Sessions of many clients over streams.
 ghost use Rattle.std.specs.Prelude.{◌≡◌, ◌<◌, ◌≤◌, [], IfOk, OnErr, OnOk, false, get_or, length};
 ghost use Rattle.oa_frame.specs.Beginnings.{AreUnbroken};
-ghost use Rattle.oa_frame.specs.Sessions.{is_answered};
+ghost use Rattle.oa_frame.specs.promise.Sessions.{is_answered};
 ghost use Rattle.oa_model.specs.Limits.{max_group};
-ghost use Rattle.oa_record.specs.Replacement.{is_replacement};
-ghost use Rattle.oa_server.specs.Desks.{ClearsDesk, all_frames, frames_of, told_at, told_to, told_with};
-ghost use Rattle.oa_server.specs.SharedSessions.{HasServedClients};
-ghost use Rattle.oa_server.specs.SharedTalks.{TakesAsked, asked_written};
-ghost use Rattle.oa_server.specs.Sharing.ClientReply.{Leaves as ALeave};
-ghost use Rattle.oa_share.specs.Outgoing.{spelled_frames};
-ghost use Rattle.oa_stream.specs.Ahead.{ahead};
+ghost use Rattle.oa_record.specs.promise.Replacement.{is_replacement};
+ghost use Rattle.oa_server.specs.SharedGroups.{ClearsDesk, told_at};
+ghost use Rattle.oa_server.specs.promise.SharedSessions.{all_frames, frames_of, told_to, told_with, IsSharedSession};
+ghost use Rattle.oa_server.specs.promise.SharedSessions.{asked_written};
+ghost use Rattle.oa_server.specs.SharedTalks.{TakesAsked};
+ghost use Rattle.oa_server.specs.promise.SharedMachine.ClientReply.{Leaves as ALeave};
+ghost use Rattle.oa_mux.specs.promise.Outgoing.{spelled_frames};
+ghost use Rattle.oa_stream.specs.BufferedSource.{ahead};
 ghost use Rattle.oa_stream.specs.Sink.{Puts};
 
 use crate::Server;
-use crate::desk::{Asker, Desk, ask_alone, ask_over, end_over, finish_over};
-use crate::engine::Engine;
+use crate::desk::{ReplyTo, SharedGroup, ask_alone, ask_over, end_over, finish_over};
+use crate::engine::ServerState;
 use crate::locking::{let_all_go, let_go, replace_for, turn_for};
 use crate::open_group::OpenGroup;
 use crate::storage::Storage;
 use oa_disk::Disk;
 use oa_frame::End;
 use oa_model::HResult;
-use oa_owners::Owners;
+use oa_mux::{SessionEnd, SharedResponder, put_last_of, put_reply_of, serve_clients};
 use oa_record::{Reply, is_replacement};
-use oa_share::{SessionEnd, SharedResponder, put_last_of, put_reply_of, serve_clients};
-use oa_stream::{Ahead, Sink, Source, Unwritten};
+use oa_stream::{BufferedSource, Sink, Source, Unwritten};
+use oa_turn::LockTable;
 use std::alloc::{AllocError, Global};
 
-/// In memory each reply is written at once. Over a store it is held until its group ends, and then all replies of the
-/// group are written, each to its client.
-impl<D: Disk> SharedResponder for Engine<D> {
+/// In memory each reply is written at once. Over a store it is held until its group ends, and then
+/// all replies of the group are written, each to its client.
+impl<D: Disk> SharedResponder for ServerState<D> {
     ghost ready = { TakesAsked };
 
     ghost turn = { asked_written };
 
-    ghost alone = { is_replacement };
+    ghost barrier = { is_replacement };
 
     fn is_alone(&self, body: &[u8]) -> bool {
         is_replacement(body)
@@ -139,8 +140,9 @@ impl<D: Disk> SharedResponder for Engine<D> {
     }
 }
 
-/// Writes the held replies, each to its client, and drops them.
-fn put_told<W: Sink>(alloc: Global, writer: &mut W, desk: &mut Desk) -> Result<(), Unwritten>
+/// Writes the held replies, each to its client, and drops them. Err: the writer failed; they are
+/// dropped, too.
+fn put_told<W: Sink>(alloc: Global, writer: &mut W, desk: &mut SharedGroup) -> Result<(), Unwritten>
     requires unbroken { (W.out writer.old).broken ≡ false }
     requires each { length desk.old.askers.items ≡ length desk.old.open_group.replies.items }
     ensures puts { Puts result (W.out writer.old) (W.out writer.new) (spelled_frames (all_frames (told_at desk.old))) }
@@ -152,18 +154,19 @@ fn put_told<W: Sink>(alloc: Global, writer: &mut W, desk: &mut Desk) -> Result<(
 }
 
 /// Drops the held replies.
-fn clear(desk: &mut Desk)
+fn clear(desk: &mut SharedGroup)
     ensures { ClearsDesk desk.old desk.new }
 {
     desk.askers.clear();
     desk.open_group.replies.clear();
 }
 
-/// Writes replies one after another, each to its client.
+/// Writes replies one after another, each to its client. Err: the writer failed, and no later reply
+/// is written.
 fn put_all<W: Sink>(
     alloc: Global,
     writer: &mut W,
-    askers: &[Asker],
+    askers: &[ReplyTo],
     replies: &[Reply],
 ) -> Result<(), Unwritten>
     requires unbroken { (W.out writer.old).broken ≡ false }
@@ -177,19 +180,19 @@ fn put_all<W: Sink>(
     Ok(())
 }
 
-/// Returns the client of a reply.
-fn asker_of(askers: &[Asker], i: usize) -> Asker
+/// Returns the client of reply `i`, counted from 0.
+fn asker_of(askers: &[ReplyTo], i: usize) -> ReplyTo
     requires { i < length askers.now }
     ensures { get_or askers.now i result ≡ result }
 {
     askers[i]
 }
 
-/// Writes one client's reply or end.
+/// Writes one client's reply or end. Err: the writer failed.
 fn put_one<W: Sink>(
     alloc: Global,
     writer: &mut W,
-    asker: Asker,
+    asker: ReplyTo,
     reply: &Reply,
 ) -> Result<(), Unwritten>
     requires { (W.out writer.old).broken ≡ false }
@@ -201,8 +204,8 @@ fn put_one<W: Sink>(
     }
 }
 
-/// Writes the end of a client: for a record that was cut or too long the reply bad stub data, with tag 0, and then
-/// the frame that ends its replies.
+/// Writes the end of a client: for a record that was cut or too long the reply bad stub data, with
+/// tag 0, and then the frame that ends its replies. Err: the writer failed.
 fn put_end<W: Sink>(alloc: Global, writer: &mut W, client: u32, why: End) -> Result<(), Unwritten>
     requires { (W.out writer.old).broken ≡ false }
     ensures { Puts result (W.out writer.old) (W.out writer.new) (spelled_frames (frames_of (ALeave client why))) }
@@ -226,25 +229,27 @@ fn is_answered(why: End) -> bool
 }
 
 impl<D: Disk> Server<D> {
-    /// Serves many clients over frames: reads their requests from a reader, and writes frames of replies to a writer.
+    /// Serves many clients over frames: reads their requests from a reader, and writes frames of
+    /// replies to a writer. Returns why the session ended.
     ///
-    /// Over a store, the changes of up to `group` requests (1 to 1,024) of any clients are committed together, and
-    /// their replies are written after that, each to its client. The end of a client counts as a request. A *now*
-    /// ends the open group; so does REPLACE LIBRARY, which is a group of its own. In memory each reply is written at
-    /// once.
+    /// Over a store, the changes of up to `group` requests (1 to 1,024) of any clients are
+    /// committed together. Their replies are written after that, each to its client. The end of a
+    /// client counts as a request. A *now* ends the open group; so does REPLACE LIBRARY, which is a
+    /// group of its own. In memory each reply is written at once.
     ///
-    /// At the start no client has a lock: locks of before belong to nobody. The end of a client releases its locks,
-    /// and the end of the session those of all present clients. Err: an allocation failed before anything was read.
+    /// At the start no client has a lock: locks of before belong to nobody. The end of a client
+    /// releases its locks, and the end of the session those of all present clients. Err: an
+    /// allocation failed before anything was read.
     pub fn serve_shared<R: Source + Drop, W: Sink>(
         &mut self,
-        reader: &mut Ahead<R>,
+        reader: &mut BufferedSource<R>,
         writer: &mut W,
         group: usize,
     ) -> Result<SessionEnd, AllocError>
         requires positive { 1 ≤ group }
         requires small { group ≤ max_group }
         requires unbroken { AreUnbroken (ahead R.input reader.old) (W.out writer.old) }
-        ensures session { IfOk result (HasServedClients (ahead R.input reader.old) (ahead R.input reader.new) (W.out writer.old) (W.out writer.new) group
+        ensures session { IfOk result (IsSharedSession (ahead R.input reader.old) (ahead R.input reader.new) (W.out writer.old) (W.out writer.new) group
             self.old.engine self.new.engine) }
         ensures unlocked { OnOk result (self.new.engine.desk.owners ≡ []) }
         ensures input { OnErr result (ahead R.input reader.new ≡ ahead R.input reader.old) }
@@ -256,7 +261,7 @@ impl<D: Disk> Server<D> {
         let askers = Vec::with_capacity(alloc, group)?;
         self.engine.desk.open_group = open_group;
         self.engine.desk.askers = askers;
-        self.engine.desk.owners = Owners::new(alloc);
+        self.engine.desk.owners = LockTable::new(alloc);
         let ended = serve_clients(&mut self.engine, alloc, reader, writer);
         let engine = &mut self.engine;
         let_all_go(alloc, &mut engine.host, &mut engine.desk.owners);

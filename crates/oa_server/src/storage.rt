@@ -1,6 +1,6 @@
 //! The storage of a server's table.
 ghost use Rattle.std.specs.Prelude.{◌≡◌};
-ghost use Rattle.oa_server.specs.Storages.{disk_of};
+ghost use Rattle.oa_server.specs.promise.Storages.{disk_of};
 
 use oa_disk::Disk;
 use oa_store::Store;

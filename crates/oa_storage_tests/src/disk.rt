@@ -4,8 +4,10 @@ use oa_disk::{DeviceFault, Disk, FuseDisk, MemoryDisk, NoDisk, Tear, flip, write
 use std::alloc::Global;
 use std::rt::HostRuntime;
 
+/// The size of a disk in bytes.
 const SIZE: usize = 16;
 
+/// The kind of a call.
 #[derive(Clone, Copy)]
 enum Kind {
     Read,
@@ -18,7 +20,8 @@ use Kind::{Read, Sync, Write};
 /// A call, its offset, and the bytes that it writes or reads.
 type Step = (Kind, u64, &'static [u8]);
 
-/// Writes that overlap between syncs, writes that do not overlap, and writes without a sync after them.
+/// Writes that overlap between syncs, writes that do not overlap, and writes without a sync after
+/// them.
 const SCRIPT: [Step; 12] = [
     (Write, 0, &[1, 2, 3, 4]),
     (Read, 2, &[3]),
@@ -72,6 +75,7 @@ const WRITTEN: [Written; 24] = [
     (12, 15, 42),
 ];
 
+/// The tears with which a disk is crashed.
 const TEARS: [Tear; 9] = [
     Tear::Lost,
     Tear::Kept,
@@ -84,7 +88,8 @@ const TEARS: [Tear; 9] = [
     Tear::Cut(100),
 ];
 
-/// Reads these bytes. Returns a failed read if the disk has other bytes.
+/// Reads these bytes from byte `at` on, if the disk has them. Err: the read failed, or the disk has
+/// other bytes.
 fn gives<D: Disk>(disk: &mut D, at: u64, wanted: &[u8]) -> Result<(), DeviceFault> {
     let size = disk.size();
     let mut bytes = [0; SIZE];
@@ -102,6 +107,7 @@ fn gives<D: Disk>(disk: &mut D, at: u64, wanted: &[u8]) -> Result<(), DeviceFaul
     }
 }
 
+/// Writes these bytes from byte `at` on, if the disk has them. Err: the write failed.
 fn puts<D: Disk>(disk: &mut D, at: u64, bytes: &[u8]) -> Result<(), DeviceFault> {
     let size = disk.size();
     if at > size || bytes.len() as u64 > size - at {
@@ -110,7 +116,7 @@ fn puts<D: Disk>(disk: &mut D, at: u64, bytes: &[u8]) -> Result<(), DeviceFault>
     disk.write_at(at, bytes)
 }
 
-/// Makes one call if its range is inside the disk.
+/// Makes one call if its range is inside the disk. Err: the call failed.
 fn make<D: Disk>(disk: &mut D, step: Step) -> Result<(), DeviceFault> {
     let (kind, at, bytes) = step;
     match kind {
@@ -145,7 +151,8 @@ fn answers<D: Disk>(disk: &mut D, rows: &[Row]) -> bool {
     true
 }
 
-/// Returns the byte that the tear leaves of a pending write with this number among the pending bytes.
+/// Returns the byte that the tear leaves of a pending write with this number among the pending
+/// bytes.
 fn torn_byte(before: u8, written: u8, tear: Tear, number: u64) -> u8 {
     match tear {
         Tear::Lost => before,
@@ -155,8 +162,8 @@ fn torn_byte(before: u8, written: u8, tear: Tear, number: u64) -> u8 {
     }
 }
 
-/// Returns the disk after a crash, computed byte by byte: the bytes written before the last sync that ended, and then
-/// those that the tear leaves of the calls that had begun.
+/// Returns the disk after a crash, computed byte by byte. It has the bytes written before the last
+/// sync that ended, and then those that the tear leaves of the calls that had begun.
 fn image_left(written: &[Written], synced: u64, moment: u64, tear: Tear) -> [u8; SIZE] {
     let begun = begun_at(moment);
     let mut image = [0; SIZE];
@@ -207,8 +214,8 @@ fn leaves(disk: &MemoryDisk, moment: u64, tear: Tear, wanted: &[u8]) -> bool {
     }
 }
 
-/// Returns the first point in time and tear for which a crash leaves other contents than those computed from these
-/// writes and syncs.
+/// Returns the first point in time and tear for which a crash leaves other contents than those
+/// computed from these writes and syncs.
 fn first_other_image(
     disk: &MemoryDisk,
     written: &[Written],
@@ -261,8 +268,8 @@ fn new(alloc: Global) -> Option<MemoryDisk> {
     MemoryDisk::new(alloc, SIZE, SCRIPT.len(), WRITTEN.len()).ok()
 }
 
-/// Plays the script, and returns the first crash of the disk that leaves other contents, or `None` if the script
-/// failed.
+/// Plays the script, and returns the first crash of the disk that leaves other contents, or `None`
+/// if the script failed.
 fn torn(alloc: Global) -> Option<Option<(u64, Tear)>> {
     let mut disk = new(alloc)?;
     if play(&mut disk, &SCRIPT) != 12 || disk.moments() != 24 {
@@ -274,7 +281,8 @@ fn torn(alloc: Global) -> Option<Option<(u64, Tear)>> {
     }
 }
 
-/// Returns whether the disk after a crash has made no calls, and has capacity for the same calls again.
+/// Returns whether the disk after a crash has made no calls, and has capacity for the same calls
+/// again.
 fn starts_again(alloc: Global) -> Option<bool> {
     let mut disk = new(alloc)?;
     play(&mut disk, &SCRIPT);
@@ -283,6 +291,7 @@ fn starts_again(alloc: Global) -> Option<bool> {
     Some(fresh && play(&mut left, &SCRIPT) == 12 && holds(&left, &LAST))
 }
 
+/// Calls of a disk whose log has capacity for three calls and five bytes.
 const PAST_THE_ROOM: [Row; 7] = [
     ((Write, 0, &[1, 2, 3]), Ok(()), 0),
     ((Write, 4, &[4, 5, 6]), Err(DeviceFault::Write), 1),
@@ -293,8 +302,8 @@ const PAST_THE_ROOM: [Row; 7] = [
     ((Sync, 0, &[]), Err(DeviceFault::Write), 4),
 ];
 
-/// Returns whether a disk with capacity for three calls and five bytes fails and counts the calls that exceed it, and
-/// makes the others.
+/// Returns whether a disk with capacity for three calls and five bytes fails and counts the calls
+/// that exceed it, and makes the others.
 fn keeps_its_room(alloc: Global) -> bool {
     let Ok(mut disk) = MemoryDisk::new(alloc, 8, 3, 5) else {
         return false;
@@ -303,8 +312,8 @@ fn keeps_its_room(alloc: Global) -> bool {
     is_told && holds(&disk, &[1, 2, 3, 0, 4, 5, 0, 0])
 }
 
-/// Returns whether the calls before this one succeed, all others fail with the error of their kind, and only the
-/// former reach the inner disk.
+/// Returns whether the calls before this one succeed, all others fail with the error of their kind,
+/// and only the former reach the inner disk.
 fn blows_at(alloc: Global, first_failing: u64) -> Option<bool> {
     let mut disk = FuseDisk::new(new(alloc)?, first_failing);
     let passed = first_failing.saturating_sub(1).min(12);
@@ -352,8 +361,8 @@ const GATED: [Written; 4] = [(1, 5, 7), (1, 6, 8), (1, 7, 9), (3, 4, 1)];
 /// The points in time at which the syncs of these four calls end, and the numbers of their calls.
 const GATE_SYNCS: [(u64, u64); 2] = [(4, 2), (8, 4)];
 
-/// Sets the gate byte, clears it, and then fails to set it because the log of the disk is full. Returns the first
-/// crash that leaves other contents, or `None` if a call has another result.
+/// Sets the gate byte, clears it, and then fails to set it because the log of the disk is full.
+/// Returns the first crash that leaves other contents, or `None` if a call has another result.
 fn gated(alloc: Global) -> Option<Option<(u64, Tear)>> {
     let mut disk = MemoryDisk::new(alloc, SIZE, 7, 16).ok()?;
     let is_made = write_then_flip(&mut disk, 5, &[7, 8, 9], 4, 1).is_ok() && disk.moments() == 8;
@@ -375,8 +384,8 @@ fn disks_in_memory(rt: HostRuntime) {
     assert_eq!(rt; (crashed, is_well), ((Some(None), Some(None)), true));
 }
 
-/// Crashes a disk of this size `count` times. Returns how many crashes leave its last byte, which was written without
-/// a sync.
+/// Crashes a disk of this size `count` times. Returns how many crashes leave its last byte, which
+/// was written without a sync.
 fn crashes(alloc: Global, size: usize, count: u64) -> Option<u64> {
     let mut disk = MemoryDisk::new(alloc, size, 8, 16).ok()?;
     let last = disk.size().saturating_sub(1);
@@ -391,8 +400,8 @@ fn crashes(alloc: Global, size: usize, count: u64) -> Option<u64> {
     Some(kept)
 }
 
-/// A crash costs a copy of the written bytes only. With two copies of the disk for each crash, the test would need
-/// minutes.
+/// A crash costs a copy of the written bytes only. With two copies of the disk for each crash, the
+/// test would need minutes.
 #[test]
 fn thousands_of_crashes_of_a_large_disk(rt: HostRuntime) {
     assert_eq!(rt; crashes(rt.alloc(), 33_562_624, 5000), Some(5000));

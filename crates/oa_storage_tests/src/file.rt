@@ -1,5 +1,5 @@
-//! Paths that can be opened as disks, and the errors of the others. The tests of the program check locks on files,
-//! and files whose reads fail.
+//! Paths that can be opened as disks, and the errors of the others. The tests of the program check
+//! locks on files, and files whose reads fail.
 use oa_disk::FileDisk;
 use std::fs;
 use std::io::{self, ErrorKind};
@@ -13,12 +13,14 @@ fn refusal(disk: io::Result<FileDisk>) -> Option<ErrorKind> {
     }
 }
 
+/// The path of a file that is created.
 const THERE: &str = "oa_disk_there";
 
+/// The path of a file that is too large to be created.
 const LARGE: &str = "oa_disk_large";
 
-/// A path, the size of the disk if it is created and not opened, and the error. A sync of /proc/self/comm, a regular
-/// file, fails. A file that cannot be filled is removed again.
+/// A path, the size of the disk if it is created and not opened, and the error. A sync of
+/// /proc/self/comm, a regular file, fails. A file that cannot be filled is removed again.
 const PATHS: [(&str, Option<u64>, Option<ErrorKind>); 13] = [
     (THERE, Some(4), None),
     (THERE, None, None),

@@ -1,5 +1,5 @@
-//! A disk that is one byte too small for a store is refused before its first call. The tests of the program check
-//! format and upgrade with crashes and failures.
+//! A disk that is one byte too small for a store is refused before its first call. The tests of the
+//! program check format and upgrade with crashes and failures.
 use oa_disk::MemoryDisk;
 use oa_store::{FormatFault, UpgradeFault, format, laws, upgrade};
 use std::alloc::Global;
@@ -8,14 +8,15 @@ use std::rt::HostRuntime;
 /// The least size of a store with banks of `BANK` bytes.
 const SIZE: usize = 75_505_664;
 
+/// The size of a bank in bytes.
 const BANK: u32 = 20_971_520;
 
-/// The errors of a format of a disk of zeros and of an upgrade after it, and the points in time of the disk after
-/// each.
+/// The results of a format of a disk of zeros, and of an upgrade after it. Each is the error and
+/// the point in time of the disk.
 type Answers = (Option<FormatFault>, u64, Option<UpgradeFault>, u64);
 
-/// An upgrade of a store of format 2 makes four calls: a sync, and reads of the first byte, the selector and the
-/// head.
+/// An upgrade of a store of format 2 makes four calls: a sync, and reads of the first byte, the
+/// selector and the head.
 const SIZES: [(usize, Answers); 2] = [
     (SIZE, (None, 16, Some(UpgradeFault::AlreadyNew), 24)),
     (
@@ -29,6 +30,7 @@ const SIZES: [(usize, Answers); 2] = [
     ),
 ];
 
+/// Returns the results for a disk of `size` zeros; None if an allocation fails.
 fn answers(alloc: Global, size: usize) -> Option<Answers> {
     let mut disk = MemoryDisk::new(alloc, size, 60, 1000).ok()?;
     let of_format = format(alloc, &mut disk, b"library", BANK).err();

@@ -1,14 +1,13 @@
-//! Banks on disks in memory, used as a store never uses them: filled to the last byte, and used after a failure of
-//! the disk.
+//! Banks on disks in memory, used as a store never uses them: filled to the last byte, and used
+//! after a failure of the disk.
 ghost use Rattle.std.specs.Prelude.{◌≡◌, ◌+◌, ◌≤◌, false, length, IfOk};
 ghost use Rattle.oa_table.specs.Tables.{first_table};
 ghost use Rattle.oa_journal.specs.Append.{IsAt};
-ghost use Rattle.oa_journal.specs.Banks.{first_gate};
-ghost use Rattle.oa_journal.specs.Shapes.{body_bytes};
-ghost use Rattle.oa_journal.specs.declared.shape.Shape.TheVariants.{Two};
+ghost use Rattle.oa_journal.specs.promise.Bank.{first_gate, body_bytes};
+ghost use Rattle.oa_journal.specs.declared.shape.BankFormat.TheVariants.{Two};
 
 use oa_disk::{DeviceFault, Disk, MemoryDisk};
-use oa_journal::{AppendFault, Bank, Shape, laws};
+use oa_journal::{AppendFault, Bank, BankFormat, laws};
 use oa_table::Table;
 use std::alloc::Global;
 use std::rt::HostRuntime;
@@ -16,6 +15,7 @@ use std::rt::HostRuntime;
 /// The size in bytes of the body of the bank, which begins at 0; its head is after it.
 const BODY: u32 = 20_971_520;
 
+/// The size of the disk in bytes.
 const DISK: usize = 20_971_552;
 
 /// Writes the bank of a library and of the table with no objects.
@@ -26,7 +26,7 @@ fn begin(disk: &mut MemoryDisk, library: &[u8], table: &Table) -> Result<Bank, D
     ensures bank { IfOk result (IsAt (Two 20971520) 20971520 0 (first_gate library.now first_table) false) }
     ensures size { ⟦<MemoryDisk as Disk>⟧.size_of disk.new ≡ ⟦<MemoryDisk as Disk>⟧.size_of disk.old }
 {
-    let mut bank = Bank::at(20_971_520, 0, Shape::Two(BODY));
+    let mut bank = Bank::at(20_971_520, 0, BankFormat::Two(BODY));
     let mut buffer = [0; 512];
     bank.start(disk, &mut buffer, library, table)?;
     Ok(bank)
@@ -42,7 +42,8 @@ struct Tried {
 }
 
 impl Tried {
-    /// Makes a bank with a library of 7 bytes and the table with no objects, in three calls of its disk.
+    /// Makes a bank with a library of 7 bytes and the table with no objects, in three calls of its
+    /// disk.
     fn new(alloc: Global, calls: usize) -> Option<Tried> {
         let mut disk = MemoryDisk::new(alloc, DISK, calls, 21_000_000).ok()?;
         let bank = begin(&mut disk, b"library", &Table::new(alloc)).ok()?;
@@ -67,8 +68,8 @@ const FRAMES: [(usize, u32, Result<(), AppendFault>, u32); 4] = [
     (971_478, 1, Ok(()), 1),
 ];
 
-/// Returns the first of these lengths with another result, or `None` if the free space of the new bank is not as
-/// expected.
+/// Returns the first of these lengths with another result, or `None` if the free space of the new
+/// bank is not as expected.
 fn filled(alloc: Global) -> Option<Option<usize>> {
     let mut tried = Tried::new(alloc, 50)?;
     if tried.bank.room() != 20_971_505 || tried.bank.size() != BODY {
@@ -86,8 +87,8 @@ fn filled(alloc: Global) -> Option<Option<usize>> {
     Some(None)
 }
 
-/// Returns whether a bank on a disk with capacity for the calls of one group fails at the next group, and is stopped
-/// from then on.
+/// Returns whether a bank fails and is stopped from then on. Its disk has capacity for the calls of
+/// one group, and fails at the next one.
 fn stops(alloc: Global) -> Option<bool> {
     let mut tried = Tried::new(alloc, 7)?;
     let is_added = tried.add(26) == Ok(());

@@ -2,6 +2,9 @@
 //!
 //! Contract: safety, as of every function; the tests crash a disk at points of its clock.
 //!
+//! A private function returns None if an allocation fails, or if something else happens than the test
+//! expects; one that searches returns None if it finds nothing.
+//!
 //! Used by no crate.
 #![tactic(auto)]
 

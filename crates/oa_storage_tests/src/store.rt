@@ -1,7 +1,7 @@
-//! An open store allocates nothing. The tests of the program, and those of oa_history_tests on disks in memory, check
-//! crashes at any point and calls of the device that fail.
+//! An open store allocates nothing. The tests of the program, and those of oa_history_tests on
+//! disks in memory, check crashes at any point and calls of the device that fail.
 ghost use Rattle.std.specs.Prelude.{◌≡◌, true};
-ghost use Rattle.oa_image.specs.Tables.{is_numbered};
+ghost use Rattle.oa_image.specs.promise.Tables.{is_numbered};
 
 use oa_disk::{Disk, MemoryDisk};
 use oa_image::laws::images_are_counted;
@@ -25,22 +25,24 @@ const PUT: [u8; 38] = [
     0xcc, 0xdd, 0xee, 0xff, 2, 1, 0, 0, 0, 0, 0, 3, 0, 7, 0, 0, 0, 0,
 ];
 
-/// Adds the group in this buffer.
+/// Commits the group in this buffer. Returns whether that succeeds.
 fn add<D: Disk>(store: &mut Store<D>, batch: &mut [u8]) -> bool {
     batch.len() > 5 && batch.len() < store.room() as usize && store.commit(batch).is_ok()
 }
 
+/// Commits the group that creates object 1. Returns whether that succeeds.
 fn create<D: Disk>(store: &mut Store<D>) -> bool {
     let mut batch = CREATE;
     add(store, &mut batch)
 }
 
+/// Commits the group that puts 7 into a property of object 1. Returns whether that succeeds.
 fn put<D: Disk>(store: &mut Store<D>) -> bool {
     let mut batch = PUT;
     add(store, &mut batch)
 }
 
-/// Makes a checkpoint of this table.
+/// Makes a checkpoint of this table. Returns whether that succeeds.
 fn settle<D: Disk>(store: &mut Store<D>, table: &Table) -> bool
     requires { is_numbered table.now ≡ true }
 {
@@ -49,8 +51,8 @@ fn settle<D: Disk>(store: &mut Store<D>, table: &Table) -> bool
     is_small && store.checkpoint(table).is_ok()
 }
 
-/// Creates an object, puts its property, makes a checkpoint, and puts the property again. Returns whether each call
-/// succeeds.
+/// Creates an object, puts its property, makes a checkpoint, and puts the property again. Returns
+/// whether each call succeeds.
 fn is_written<D: Disk>(store: &mut Store<D>, table: &Table) -> bool
     requires { is_numbered table.now ≡ true }
 {
@@ -58,9 +60,9 @@ fn is_written<D: Disk>(store: &mut Store<D>, table: &Table) -> bool
     is_begun && settle(store, table) && put(store)
 }
 
-/// Makes and opens a store, and then calls `is_written`. Returns `None` if the store is not made. Only the calls
-/// before `is_written` allocate: `tests/program/test_raw_memory.py` fails all allocations from each call of the
-/// allocator on.
+/// Makes and opens a store, and then calls `is_written`. Returns `None` if the store is not made.
+/// Only the calls before `is_written` allocate: `tests/program/test_raw_memory.py` fails all
+/// allocations from each call of the allocator on.
 fn written(alloc: Global) -> Option<bool> {
     let mut disk = MemoryDisk::new(alloc, 75_505_664, 100, 2000).ok()?;
     format(alloc, &mut disk, LIBRARY, 20_971_520).ok()?;

@@ -1,6 +1,6 @@
-//! Crashes during the upgrade and during the inspection of a store of format 1, at each point in time with each tear.
-//! Each crash leaves the same library and the same table, in the old format or in the new one, and an upgrade
-//! completes from there. All allocations succeed.
+//! Crashes during the upgrade and during the inspection of a store of format 1, at each point in
+//! time with each tear. Each crash leaves the same library and the same table, in the old format or
+//! in the new one, and an upgrade completes from there. All allocations succeed.
 use oa_disk::{Disk, MemoryDisk, Tear};
 use oa_store::{UpgradeFault, inspect, upgrade};
 use std::alloc::Global;
@@ -9,10 +9,11 @@ use std::rt::HostRuntime;
 /// The size of the disk: that of a store of format 2 with banks of `BANK` bytes.
 const SIZE: usize = 75_505_664;
 
+/// The size of a bank in bytes.
 const BANK: u32 = 20_971_520;
 
-/// A store of format 1: the first byte, the head of bank 0, its library, the snapshot of no objects, and the group
-/// that creates object 1.
+/// A store of format 1: the first byte, the head of bank 0, its library, the snapshot of no
+/// objects, and the group that creates object 1.
 const PARTS: [(u64, &[u8]); 5] = [
     (0, &[1]),
     (
@@ -30,6 +31,7 @@ const PARTS: [(u64, &[u8]); 5] = [
     ),
 ];
 
+/// The tears with which a disk is crashed.
 const TEARS: [Tear; 9] = [
     Tear::Lost,
     Tear::Kept,
@@ -42,7 +44,7 @@ const TEARS: [Tear; 9] = [
     Tear::Cut(50),
 ];
 
-/// Writes one part of the store.
+/// Writes one part of the store. Returns whether that succeeds.
 fn lay(disk: &mut MemoryDisk, at: u64, bytes: &[u8]) -> bool {
     at < 10_000
         && bytes.len() < 100
@@ -71,8 +73,8 @@ fn is_held(alloc: Global, disk: &mut MemoryDisk) -> bool {
     }
 }
 
-/// Returns whether the library and object 1 are read after a crash, and again after an upgrade, which fails only if
-/// the store already has format 2.
+/// Returns whether the library and object 1 are read after a crash, and again after an upgrade. The
+/// upgrade may fail only because the store already has format 2.
 fn goes_on(alloc: Global, disk: &mut MemoryDisk) -> bool {
     if !is_held(alloc, disk) {
         return false;
@@ -83,8 +85,8 @@ fn goes_on(alloc: Global, disk: &mut MemoryDisk) -> bool {
     }
 }
 
-/// Crashes the disk at each point in time with each tear. Returns the last point, and how many crashes lose
-/// something, or `None` if an allocation fails.
+/// Crashes the disk at each point in time with each tear. Returns the last point, and how many
+/// crashes lose something, or `None` if an allocation fails.
 fn stopped(alloc: Global, disk: &MemoryDisk) -> Option<(u64, u64)> {
     let mut wrong = 0_u64;
     for moment in 0..=disk.moments() {
@@ -113,9 +115,9 @@ fn stopped_inspecting(alloc: Global) -> Option<(u64, u64)> {
     stopped(alloc, &disk)
 }
 
-/// Nine of the fourteen calls of an upgrade are those of an inspection: a sync, and reads of the first byte, the
-/// selector, the head three times, its parts and the groups. After them it writes a head and a body, syncs, writes
-/// the selector, and syncs.
+/// Nine of the fourteen calls of an upgrade are those of an inspection: a sync, and reads of the
+/// first byte, the selector, the head three times, its parts and the groups. After them it writes a
+/// head and a body, syncs, writes the selector, and syncs.
 #[test]
 fn an_upgrade_is_stopped_at_each_moment(rt: HostRuntime) {
     assert_eq!(rt; stopped_upgrading(rt.alloc()), Some((28, 0)));

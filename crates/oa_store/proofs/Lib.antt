@@ -6,3 +6,5 @@ pub mod OneStore
 pub mod Opened
 mod Upgraded
 pub mod Whole
+pub mod Committed
+pub mod Batches

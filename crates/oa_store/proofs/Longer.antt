@@ -2,20 +2,19 @@
 use Rattle.std.proofs.Common.{◌≡◌, ℕ, zero, suc, ◌+◌, ◌*◌, ◌%◌, ◌<◌, ◌≤◌, IsTrue, List, ◌++◌, length, get_or, sym, ◌∙◌, ap, subst, arith, length-append}
 use Rattle.std.proofs.lemmas.List.{get_or_append_left}
 use Rattle.std.proofs.lemmas.Nat.{mod_below}
-use Rattle.oa_disk.specs.Disk.{NothingPending, Only}
+use Rattle.oa_disk.specs.promise.Disk.{NothingPending, Only}
 use Rattle.oa_disk.specs.declared.disk.Disk.{Ghosts}
-use Rattle.oa_table.specs.Tables.{TableValue}
-use Rattle.oa_journal.specs.declared.shape.Shape.{Shape}
-use Rattle.oa_journal.specs.declared.shape.Shape.TheVariants.{One, Two}
-use Rattle.oa_journal.specs.Bank.{from_place}
-use Rattle.oa_journal.specs.Shapes.{body_bytes, disk_bytes}
+use Rattle.oa_table.specs.promise.Tables.{TableValue}
+use Rattle.oa_journal.specs.declared.shape.BankFormat.{BankFormat}
+use Rattle.oa_journal.specs.declared.shape.BankFormat.TheVariants.{One, Two}
+use Rattle.oa_journal.specs.promise.Bank.{from_place, body_bytes, disk_bytes}
 use Rattle.oa_journal.proofs.Banks.{same_bank}
 use Rattle.oa_store.specs.declared.upgrading.OldStore.{OldStore}
 use Rattle.oa_store.specs.Bringing.{FindsOld, HoldsOld}
-use Rattle.oa_store.specs.Stores.{body_place, head_place, store_bytes, IsFormatted, IsStoreAt}
+use Rattle.oa_store.specs.promise.Stores.{body_place, head_place, store_bytes, IsFormatted, IsStoreAt}
 
 -- both banks lie within the bytes of their format
-body_within : (shape : Shape) (chosen : ℕ) → chosen < 2 → body_place shape chosen + body_bytes shape ≤ disk_bytes shape
+body_within : (shape : BankFormat) (chosen : ℕ) → chosen < 2 → body_place shape chosen + body_bytes shape ≤ disk_bytes shape
 body_within One zero two = omega arith
 body_within One (suc zero) two = omega arith
 body_within One (suc (suc n)) two = absurd (omega (arith, two))
@@ -27,7 +26,7 @@ module _ (image more : List ℕ) where
   same_byte : (i : ℕ) → i < length image → get_or (image ++ more) i 0 ≡ get_or image i 0
   same_byte i lt = get_or_append_left image more 0 i lt
 
-  pub longer_store : (shape : Shape) (chosen gate : ℕ) (library : List ℕ) (table : TableValue) → IsStoreAt shape chosen gate library table image
+  pub longer_store : (shape : BankFormat) (chosen gate : ℕ) (library : List ℕ) (table : TableValue) → IsStoreAt shape chosen gate library table image
       → IsStoreAt shape chosen gate library table (image ++ more)
   longer_store shape chosen gate library table is =
       let two : chosen < 2 = omega (arith, is.head.selected, mod_below (get_or image 4096 0) 2 (omega arith)) in

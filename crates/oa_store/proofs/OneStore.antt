@@ -1,13 +1,13 @@
 -- An image is a store of one format, one library and one table.
 use Rattle.std.proofs.Common.{◌≡◌, ◌∙◌, ℕ, List, sym, subst}
-use Rattle.oa_table.specs.Tables.{TableValue}
-use Rattle.oa_journal.specs.declared.shape.Shape.{Shape}
-use Rattle.oa_journal.specs.Bank.{from_place, IsBank}
+use Rattle.oa_table.specs.promise.Tables.{TableValue}
+use Rattle.oa_journal.specs.declared.shape.BankFormat.{BankFormat}
+use Rattle.oa_journal.specs.promise.Bank.{from_place, IsBank}
 use Rattle.oa_journal.proofs.Banks.{one_bank, same_shape}
-use Rattle.oa_store.specs.Stores.{body_place, head_place, IsStoreAt, IsStore}
+use Rattle.oa_store.specs.promise.Stores.{body_place, head_place, IsStoreAt, IsStore}
 use Rattle.oa_store.specs.OneStore.{AreSameStores}
 
-pub record IsSameStore (shape : Shape) (chosen gate : ℕ) (library : List ℕ) (table : TableValue) (also : Shape) (number end : ℕ)
+pub record IsSameStore (shape : BankFormat) (chosen gate : ℕ) (library : List ℕ) (table : TableValue) (also : BankFormat) (number end : ℕ)
     (text : List ℕ) (other : TableValue) : Type 0 where
   pub shape_same : shape ≡ also
   pub chosen_same : chosen ≡ number
@@ -15,7 +15,7 @@ pub record IsSameStore (shape : Shape) (chosen gate : ℕ) (library : List ℕ) 
   pub library_same : library ≡ text
   pub table_same : table ≡ other
 
-pub one_store_at : (image : List ℕ) (shape : Shape) (chosen gate : ℕ) (library : List ℕ) (table : TableValue) (also : Shape)
+pub one_store_at : (image : List ℕ) (shape : BankFormat) (chosen gate : ℕ) (library : List ℕ) (table : TableValue) (also : BankFormat)
     (number end : ℕ) (text : List ℕ) (other : TableValue)
     → IsStoreAt shape chosen gate library table image → IsStoreAt also number end text other image
     → IsSameStore shape chosen gate library table also number end text other
@@ -26,7 +26,7 @@ one_store_at image shape chosen gate library table also number end text other on
     let head = from_place (head_place chosen) image in
     let shapes = same_shape head (from_place (body_place also chosen) image) (from_place (body_place shape chosen) image) also text other end
     shape library table gate there one.bank in
-    let here = subst (λ (s : Shape). IsBank s head (from_place (body_place s chosen) image) text other end) shapes there in
+    let here = subst (λ (s : BankFormat). IsBank s head (from_place (body_place s chosen) image) text other end) shapes there in
     let same = one_bank shape head (from_place (body_place shape chosen) image) library table gate text other end one.bank here in
     record {
       shape_same = sym shapes;

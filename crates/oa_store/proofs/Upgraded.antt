@@ -1,27 +1,29 @@
 -- What an upgrade finds and leaves.
 use Rattle.std.proofs.Common.{◌≡◌, ◌⊎◌, inl, inr, ⊎_elim, ℕ, ◌-◌, List, Result, Ok, Err, OnOk, is_ok, false, true, true≢false, refl, sym, subst}
-use Rattle.oa_disk.specs.Disk.{Only}
+use Rattle.oa_disk.specs.promise.Disk.{Only}
 use Rattle.oa_disk.specs.declared.disk.DeviceFault.{DeviceFault}
 use Rattle.oa_disk.specs.declared.disk.DeviceFault.TheVariants as devices
-use Rattle.oa_table.specs.Tables.{TableValue, unlocked_table}
+use Rattle.oa_table.specs.promise.Tables.{TableValue, unlocked_table}
 use Rattle.oa_journal.specs.declared.bank.Bank.{Bank}
-use Rattle.oa_journal.specs.declared.shape.Shape.{Shape}
-use Rattle.oa_journal.specs.declared.shape.Shape.TheVariants.{One, Two}
-use Rattle.oa_journal.specs.Shapes.{body_bytes}
+use Rattle.oa_journal.specs.declared.shape.BankFormat.{BankFormat}
+use Rattle.oa_journal.specs.declared.shape.BankFormat.TheVariants.{One, Two}
+use Rattle.oa_journal.specs.promise.Bank.{body_bytes, from_place, IsBank}
 use Rattle.oa_journal.specs.Append.{IsAt, TornBank}
-use Rattle.oa_journal.specs.Bank.{from_place, IsBank}
 use Rattle.oa_journal.proofs.Lockless.{no_locks}
 use Rattle.oa_journal.specs.declared.bank.BankFault.{BankFault}
 use Rattle.oa_journal.specs.declared.bank.BankFault.TheVariants as banks
-use Rattle.oa_journal.specs.Replies.{IsCaused as IsBankCaused}
+use Rattle.oa_journal.specs.Replies.{IsCausedBankFault as IsBankCaused}
 use Rattle.oa_store.specs.declared.fault.FindFault.{FindFault}
 use Rattle.oa_store.specs.declared.fault.FindFault.TheVariants as finds
 use Rattle.oa_store.specs.declared.fault.UpgradeFault.{UpgradeFault}
 use Rattle.oa_store.specs.declared.fault.UpgradeFault.TheVariants as upgrades
-use Rattle.oa_store.specs.Changes.{IsMove, IsMoved, IsUpgrade}
-use Rattle.oa_store.specs.Faults.{HeadSays, HasOldShape, IsBeheaded, IsSpoilt, IsOld, IsCaused, IsCausedUpgrade, IsFailed, IsFailedUpgrade, ReadingTells, UpgradeSays, DeviceTells, UpgradeDeviceTells, of_finding, upgrade_of_bank, upgrade_of_finding}
+use Rattle.oa_store.specs.Changes.{IsMove, IsMoved}
+use Rattle.oa_store.specs.promise.Changes.{IsUpgrade}
+use Rattle.oa_store.specs.Faults.{HeadSays, HasOldShape, IsCausedUpgrade, IsFailedUpgrade, ReadingTells, UpgradeSays}
+use Rattle.oa_store.specs.Faults.{UpgradeDeviceTells, of_finding, upgrade_of_bank, upgrade_of_finding}
+use Rattle.oa_store.specs.promise.Faults.{IsBeheaded, IsSpoilt, IsOld, IsCausedOpenFault, IsFailed, DeviceTells}
 use Rattle.oa_store.proofs.OneStore.{one_store_at}
-use Rattle.oa_store.specs.Stores.{body_place, head_place, IsStoreAt, IsStoreIn}
+use Rattle.oa_store.specs.promise.Stores.{body_place, head_place, IsStoreAt, IsStoreIn}
 
 -- a refusal before a bank is looked at, as one of an upgrade
 pub says_early : (bank size : ℕ) (contents : List ℕ) (e : FindFault) → (e ≡ finds.Memory → ⊥) → HeadSays size contents e
@@ -43,7 +45,7 @@ any_size_late (banks.Damaged place) is = absurd cc
 any_size_late (banks.Device fault) is = absurd cc
 any_size_late banks.Memory is = absurd cc
 
-pub caused_early : (before now : ℕ) (e : FindFault) → IsCaused before now (of_finding e) → IsCausedUpgrade before now (upgrade_of_finding e)
+pub caused_early : (before now : ℕ) (e : FindFault) → IsCausedOpenFault before now (of_finding e) → IsCausedUpgrade before now (upgrade_of_finding e)
 caused_early before now finds.NotAStore is = is
 caused_early before now (finds.Damaged place) is = is
 caused_early before now (finds.Device fault) is = is
@@ -98,11 +100,11 @@ was_done T E P (Ok x) is done = done
 was_done T E P (Err e) is done = absurd (true≢false (sym is))
 
 -- what a bank does where it stands
-module _ (bank : Bank) (shape : Shape) (head body gate : ℕ) (at : IsAt shape head body gate false bank) where
+module _ (bank : Bank) (shape : BankFormat) (head body gate : ℕ) (at : IsAt shape head body gate false bank) where
   pub torn_there : (old new : List ℕ) → TornBank bank.head bank.body (body_bytes bank.shape) old new
       → TornBank head body (body_bytes shape) old new
   torn_there old new torn =
-      subst (λ (s : Shape). TornBank head body (body_bytes s) old new) at.shape_is
+      subst (λ (s : BankFormat). TornBank head body (body_bytes s) old new) at.shape_is
       (subst (λ (b : ℕ). TornBank head b (body_bytes bank.shape) old new) at.body_is
       (subst (λ (h : ℕ). TornBank h bank.body (body_bytes bank.shape) old new) at.head_is torn))
 
@@ -110,7 +112,7 @@ module _ (bank : Bank) (shape : Shape) (head body gate : ℕ) (at : IsAt shape h
       → IsBank bank.shape (from_place bank.head disk) (from_place bank.body disk) library table end
       → IsBank shape (from_place head disk) (from_place body disk) library table end
   bank_there disk library table end is =
-      subst (λ (s : Shape). IsBank s (from_place head disk) (from_place body disk) library table end) at.shape_is
+      subst (λ (s : BankFormat). IsBank s (from_place head disk) (from_place body disk) library table end) at.shape_is
       (subst (λ (b : ℕ). IsBank bank.shape (from_place head disk) (from_place b disk) library table end) at.body_is
       (subst (λ (h : ℕ). IsBank bank.shape (from_place h disk) (from_place bank.body disk) library table end) at.head_is is))
 
@@ -127,8 +129,9 @@ module _ (size chosen gate next : ℕ) (library : List ℕ) (table : TableValue)
   moved move shape text other store =
       let all = one_store_at found One chosen gate library table shape store.0 store.1 text other is store.2 in
       let step = subst (λ (t : TableValue). IsMove chosen size next library t d f) lockless move in
-      let left : IsStoreIn One f library table ⊎ IsStoreIn (Two size) f library table = ⊎_elim (λ old. inl (chosen, gate, old)) (λ new. inr (1 - chosen, next, new)) (step One gate library (inl refl) here) in
-      subst (λ (s : Shape). IsStoreIn s f text other ⊎ IsStoreIn (Two size) f text other) all.shape_same
+      let left : IsStoreIn One f library table ⊎ IsStoreIn (Two size) f library table =
+      ⊎_elim (λ old. inl (chosen, gate, old)) (λ new. inr (1 - chosen, next, new)) (step One gate library (inl refl) here) in
+      subst (λ (s : BankFormat). IsStoreIn s f text other ⊎ IsStoreIn (Two size) f text other) all.shape_same
       (subst (λ (t : TableValue). IsStoreIn One f text t ⊎ IsStoreIn (Two size) f text t) all.table_same
       (subst (λ (l : List ℕ). IsStoreIn One f l table ⊎ IsStoreIn (Two size) f l table) all.library_same left))
 

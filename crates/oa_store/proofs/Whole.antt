@@ -1,23 +1,24 @@
 -- What is refused of a disk that has a whole store.
 use Rattle.std.proofs.Common.{◌≡◌, ◌⊎◌, ⊎_elim, ◌+◌, ◌<◌, ◌≤◌, ℕ, List, None, length, arith, ap, subst}
-use Rattle.oa_image.specs.Tables.{table_image}
-use Rattle.oa_journal.specs.declared.shape.Shape.TheVariants.{One, Two}
+use Rattle.oa_image.specs.promise.Tables.{table_image}
+use Rattle.oa_journal.specs.declared.shape.BankFormat.TheVariants.{One, Two}
 use Rattle.oa_store.specs.declared.fault.UpgradeFault.TheVariants as upgrades
 use Rattle.oa_store.proofs.OneStore.{one_store}
-use Rattle.oa_table.specs.Tables.{TableValue}
-use Rattle.oa_journal.specs.declared.shape.Shape.{Shape}
+use Rattle.oa_table.specs.promise.Tables.{TableValue}
+use Rattle.oa_journal.specs.declared.shape.BankFormat.{BankFormat}
 use Rattle.oa_journal.proofs.Banks.{bank_header}
 use Rattle.oa_journal.proofs.Damages.{not_damaged}
-use Rattle.oa_journal.specs.Bank.{from_place}
-use Rattle.oa_journal.specs.Damages.{IsDamagedBody}
+use Rattle.oa_journal.specs.promise.Bank.{from_place}
+use Rattle.oa_journal.specs.promise.Damages.{IsDamagedBody}
 use Rattle.oa_store.specs.declared.fault.OpenFault.{OpenFault}
 use Rattle.oa_store.specs.declared.fault.OpenFault.TheVariants.{NotAStore, OldFormat, LibraryDiffers, Damaged, Device, Memory}
-use Rattle.oa_store.specs.Faults.{CanBeBrought, RefusalSays, SpeaksOfContents, UpgradeSays}
-use Rattle.oa_store.specs.Stores.{body_place, head_place, IsStore, IsStoreAt}
+use Rattle.oa_store.specs.promise.Faults.{CanBeBrought, RefusalSays, SpeaksOfContents}
+use Rattle.oa_store.specs.Faults.{UpgradeSays}
+use Rattle.oa_store.specs.promise.Stores.{body_place, head_place, IsStore, IsStoreAt}
 use Rattle.oa_store.proofs.Opened.{its_bank, its_shape}
 
 -- a bank that is damaged in its body has a head of its format, so it is none of a store's
-spoilt_is_none : (shape other : Shape) (contents : List ℕ) (chosen gate place : ℕ) (library : List ℕ) (table : TableValue)
+spoilt_is_none : (shape other : BankFormat) (contents : List ℕ) (chosen gate place : ℕ) (library : List ℕ) (table : TableValue)
     → IsStoreAt shape chosen gate library table contents
     → IsDamagedBody other (from_place (head_place chosen) contents) (from_place (body_place other chosen) contents) place → ⊥
 spoilt_is_none shape other contents chosen gate place library table store damaged =
@@ -27,7 +28,7 @@ spoilt_is_none shape other contents chosen gate place library table store damage
     (λ image. its_shape shape other contents chosen gate image.0 image.1 library table image.2 store)
     (λ rest. its_shape shape other contents chosen gate rest.0 rest.1 library table rest.3.has store)
     damaged in
-    let here = subst (λ (s : Shape). IsStoreAt s chosen gate library table contents) same store in
+    let here = subst (λ (s : BankFormat). IsStoreAt s chosen gate library table contents) same store in
     not_damaged other head body place library table gate damaged here.bank
 
 pub whole_is_not_refused : (library : List ℕ) (table : TableValue) (size : ℕ) (contents : List ℕ) (e : OpenFault) → length contents ≡ size
@@ -39,7 +40,11 @@ whole_is_not_refused library table size contents LibraryDiffers long is r says =
 whole_is_not_refused library table size contents (Damaged place) long is r says = ⊎_elim
     (λ none.
     let store = its_bank is.0 contents none.chosen is.1.0 is.1.1 library table none.head is.1.2 in
-    none.none is.0 (length library) _ (record { room = store.room; has = bank_header is.0 (from_place (head_place none.chosen) contents) (from_place (body_place is.0 none.chosen) contents) library table is.1.1 store.bank }))
+    none.none is.0 (length library) _ (record {
+      room = store.room;
+      has = bank_header is.0 (from_place (head_place none.chosen) contents) (from_place (body_place is.0 none.chosen) contents) library table
+          is.1.1 store.bank;
+    }))
     (λ rest.
     let store = its_bank is.0 contents rest.chosen is.1.0 is.1.1 library table rest.head is.1.2 in
     spoilt_is_none is.0 rest.shape contents rest.chosen is.1.1 rest.offset library table store rest.damaged)
@@ -56,7 +61,8 @@ brought_none bank size contents long was says =
 pub brought_new : (bank size : ℕ) (contents : List ℕ) → CanBeBrought bank contents → UpgradeSays bank size contents upgrades.AlreadyNew → ⊥
 brought_new bank size contents was says =
     let store = its_bank One contents says.chosen was.store.0 was.store.1 was.library was.table says.head was.store.2 in
-    let shape : One ≡ Two says.size = its_shape One (Two says.size) contents says.chosen was.store.1 says.library says.snapshot was.library was.table says.has.has store in
+    let shape : One ≡ Two says.size = its_shape One (Two says.size) contents says.chosen was.store.1 says.library says.snapshot was.library was.table
+    says.has.has store in
     absurd (cc shape)
 
 pub brought_damaged : (bank size place : ℕ) (contents : List ℕ) → CanBeBrought bank contents
@@ -71,7 +77,11 @@ brought_damaged bank size place contents was says = ⊎_elim
     (λ rest. ⊎_elim
     (λ none.
     let store = its_bank One contents none.chosen was.store.0 was.store.1 was.library was.table none.head was.store.2 in
-    none.none One (length was.library) _ (record { room = store.room; has = bank_header One (from_place (head_place none.chosen) contents) (from_place (body_place One none.chosen) contents) was.library was.table was.store.1 store.bank }))
+    none.none One (length was.library) _ (record {
+      room = store.room;
+      has = bank_header One (from_place (head_place none.chosen) contents) (from_place (body_place One none.chosen) contents) was.library
+          was.table was.store.1 store.bank;
+    }))
     (λ spoilt.
     let store = its_bank One contents spoilt.chosen was.store.0 was.store.1 was.library was.table spoilt.head was.store.2 in
     spoilt_is_none One spoilt.shape contents spoilt.chosen was.store.1 spoilt.offset was.library was.table store spoilt.damaged)

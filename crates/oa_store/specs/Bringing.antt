@@ -1,12 +1,12 @@
 -- A store of format 1 that was found, and the disks that hold it. (This project's choice.)
 use Rattle.std.specs.Prelude.{◌≡◌, ℕ, ◌+◌, ◌≤◌, IsTrue, length}
-use Rattle.oa_disk.specs.Disk.{NothingPending, Only}
+use Rattle.oa_disk.specs.promise.Disk.{NothingPending, Only}
 use Rattle.oa_disk.specs.declared.disk.Disk.{Ghosts}
-use Rattle.oa_image.specs.Tables.{FitsBank}
-use Rattle.oa_journal.specs.declared.shape.Shape.TheVariants.{One}
-use Rattle.oa_model.specs.Limits.{max_library_bytes}
+use Rattle.oa_image.specs.promise.Tables.{FitsBank}
+use Rattle.oa_journal.specs.declared.shape.BankFormat.TheVariants.{One}
+use Rattle.oa_model.specs.promise.Limits.{max_library_bytes}
 use Rattle.oa_store.specs.declared.upgrading.OldStore.{OldStore}
-use Rattle.oa_store.specs.Stores.{IsStoreAt}
+use Rattle.oa_store.specs.promise.Stores.{IsStoreAt}
 
 -- The store of format 1 on a disk was found. A server accepts its library, and its table fits into a body of this
 -- size.

@@ -7,3 +7,6 @@ pub mod OneStore
 pub mod Openings
 pub mod Stores
 pub mod Writing
+pub mod Holding
+pub mod Kept
+pub mod promise

@@ -1,17 +1,15 @@
 -- What the errors of a format and of an upgrade imply. (This project's choice.)
 use Rattle.std.specs.Prelude.{◌≡◌, ◌↔◌, ◌⊎◌, ℕ, ◌+◌, ◌*◌, ◌<◌, ◌≤◌, IsTrue, true, List, length, Result, IsErrOf}
-use Rattle.oa_disk.specs.Disk.{Only}
+use Rattle.oa_disk.specs.promise.Disk.{Only}
 use Rattle.oa_disk.specs.declared.disk.Disk.{Ghosts}
-use Rattle.oa_image.specs.Tables.{is_numbered}
-use Rattle.oa_journal.specs.Reads.{WritesNothing}
-use Rattle.oa_journal.specs.declared.shape.Shape.TheVariants.{One, Two}
-use Rattle.oa_journal.specs.Shapes.{disk_bytes}
+use Rattle.oa_image.specs.promise.Tables.{is_numbered}
+use Rattle.oa_journal.specs.promise.Bank.{WritesNothing, disk_bytes}
+use Rattle.oa_journal.specs.declared.shape.BankFormat.TheVariants.{One, Two}
 use Rattle.oa_store.specs.declared.fault.UpgradeFault.{UpgradeFault}
 use Rattle.oa_store.specs.declared.fault.UpgradeFault.TheVariants as upgrades
-use Rattle.oa_store.specs.Calls.{checkpoint_calls, piece_bytes}
+use Rattle.oa_store.specs.promise.Stores.{checkpoint_calls, piece_bytes, IsStoreAt}
 use Rattle.oa_store.specs.Faults.{IsCausedUpgrade, IsRefusedUpgrade, ReadingTells, UpgradeSays, UpgradeDeviceTells}
-use Rattle.oa_store.specs.Stores.{IsStoreAt}
-use Rattle.oa_table.specs.Tables.{TableValue}
+use Rattle.oa_table.specs.promise.Tables.{TableValue}
 
 -- One error is returned exactly if the disk has fewer bytes than those of format 1 and two bodies of this size,
 -- before the first call.
@@ -63,5 +61,5 @@ pub record RefusesUpgrade {D : Type 0} (g : Ghosts D) (size : ℕ) (old new : D)
   pub tells : IsTrue (g.is_honest new) → UpgradeDeviceTells size (g.contents old) (g.image old) (g.image new) fault
   -- then at most ten calls were made, and one for every two bytes of the disk
   pub calls : IsRefusedUpgrade fault → IsTrue (g.is_honest new) → g.moment new ≤ g.moment old + (20 + g.size_of old)
-  -- otherwise at most as many, or those of an upgrade
+  -- otherwise at most that number, or those of an upgrade
   pub most : IsTrue (g.is_honest new) → (g.moment new ≤ g.moment old + (20 + g.size_of old)) ⊎ CallsForUpgrade g old new

@@ -1,27 +1,27 @@
 -- What an opening and an inspection of a disk return. Everything but what is in memory is stated of a disk that is
 -- honest at the end. (This project's choice.)
 use Rattle.std.specs.Prelude.{◌≡◌, ℕ, ◌+◌, ◌<◌, ◌≤◌, IsTrue, true, false, List, length, Option, Some, None}
-use Rattle.oa_disk.specs.Disk.{Only}
+use Rattle.oa_disk.specs.promise.Disk.{Only}
 use Rattle.oa_disk.specs.declared.disk.Disk.{Ghosts}
-use Rattle.oa_image.specs.Tables.{is_numbered}
+use Rattle.oa_image.specs.promise.Tables.{is_numbered}
 use Rattle.oa_journal.specs.Append.{IsAt}
-use Rattle.oa_journal.specs.Bank.{from_place, HasHead, IsBank}
+use Rattle.oa_journal.specs.promise.Bank.{from_place, HasHead, IsBank, body_bytes, disk_bytes, IsShape}
 use Rattle.oa_journal.specs.ReadCalls.{IsStored}
-use Rattle.oa_journal.specs.Shapes.{body_bytes, disk_bytes, IsShape}
-use Rattle.oa_journal.specs.declared.head.Head.{Head}
-use Rattle.oa_journal.specs.declared.shape.Shape.{Shape}
-use Rattle.oa_journal.specs.declared.shape.Shape.TheVariants.{Two}
-use Rattle.oa_store.specs.Calls.{piece_bytes}
+use Rattle.oa_journal.specs.declared.head.BankHead.{BankHead}
+use Rattle.oa_journal.specs.declared.shape.BankFormat.{BankFormat}
+use Rattle.oa_journal.specs.declared.shape.BankFormat.TheVariants.{Two}
+use Rattle.oa_store.specs.promise.Stores.{piece_bytes, body_place, head_place, store_bytes, IsFormatted, IsForeign}
+use Rattle.oa_store.specs.promise.Stores.{IsStore, IsStoreAt}
 use Rattle.oa_store.specs.declared.fault.FindFault.{FindFault}
 use Rattle.oa_store.specs.declared.fault.OpenFault.{OpenFault}
 use Rattle.oa_store.specs.declared.fault.OpenFault.TheVariants.{LibraryDiffers, OldFormat}
 use Rattle.oa_store.specs.declared.reading.Found.{Found}
 use Rattle.oa_store.specs.declared.store.Store.{Store}
-use Rattle.oa_store.specs.Faults.{of_finding, IsCaused, ComesOfForeign, SpeaksOfContents, HeadSays, RefusalSays}
-use Rattle.oa_store.specs.Faults.{DeviceTells, moments_until}
-use Rattle.oa_store.specs.Stores.{body_place, head_place, store_bytes, IsFormatted, IsForeign, IsNewStore, IsStore}
-use Rattle.oa_store.specs.Stores.{IsStoreAt}
-use Rattle.oa_table.specs.Tables.{TableValue, unlocked_table}
+use Rattle.oa_store.specs.Faults.{of_finding, HeadSays}
+use Rattle.oa_store.specs.promise.Faults.{IsCausedOpenFault, ComesOfForeign, SpeaksOfContents, RefusalSays, DeviceTells}
+use Rattle.oa_store.specs.promise.Faults.{moments_until}
+use Rattle.oa_store.specs.Stores.{IsNewStore}
+use Rattle.oa_table.specs.promise.Tables.{TableValue, unlocked_table}
 
 -- The disk is formatted, and its selector names this bank. Nothing is pending.
 pub record FindsFormatted {D : Type 0} (g : Ghosts D) (chosen : ℕ) (old new : D) : Type 0 where
@@ -35,13 +35,13 @@ pub record FindsFormatted {D : Type 0} (g : Ghosts D) (chosen : ℕ) (old new : 
 pub record RefusesFormatted {D : Type 0} (g : Ghosts D) (old new : D) (fault : FindFault) : Type 0 where
   pub says : IsTrue (g.is_honest new) → HeadSays (g.size_of old) (g.contents old) fault
   pub early : ComesOfForeign (of_finding fault)
-  pub cause : IsCaused (g.failures_of old) (g.failures_of new) (of_finding fault)
+  pub cause : IsCausedOpenFault (g.failures_of old) (g.failures_of new) (of_finding fault)
   pub tells : IsTrue (g.is_honest new) → DeviceTells (g.contents old) (g.image old) (g.image new) (of_finding fault)
   -- at most two calls if the disk is not formatted: its selector is not read then
   pub until : IsTrue (g.is_honest new) → g.moment new ≤ g.moment old + moments_until 6 (of_finding fault)
 
 -- The bank that the selector of a disk names was found, with its head. Nothing is pending.
-pub record FindsChosen {D : Type 0} (g : Ghosts D) (chosen : ℕ) (head : Head) (old new : D) : Type 0 where
+pub record FindsChosen {D : Type 0} (g : Ghosts D) (chosen : ℕ) (head : BankHead) (old new : D) : Type 0 where
   pub found : IsTrue (g.is_honest new) → IsFormatted chosen (g.contents old)
       × HasHead head.shape (head_place chosen) (g.contents old) head.library head.snapshot
   pub two : chosen < 2
@@ -55,12 +55,12 @@ pub record FindsChosen {D : Type 0} (g : Ghosts D) (chosen : ℕ) (head : Head) 
 pub record RefusesChosen {D : Type 0} (g : Ghosts D) (old new : D) (fault : FindFault) : Type 0 where
   pub says : IsTrue (g.is_honest new) → HeadSays (g.size_of old) (g.contents old) fault
   pub early : IsTrue (g.is_honest new) → IsForeign (g.size_of old) (g.contents old) → ComesOfForeign (of_finding fault)
-  pub cause : IsCaused (g.failures_of old) (g.failures_of new) (of_finding fault)
+  pub cause : IsCausedOpenFault (g.failures_of old) (g.failures_of new) (of_finding fault)
   pub tells : IsTrue (g.is_honest new) → DeviceTells (g.contents old) (g.image old) (g.image new) (of_finding fault)
 
 -- The bank with that head and that body has this library and this table, and its closed gate is there: at most four
 -- calls, and one for every two bytes of snapshot and groups.
-pub record FindsBank {D : Type 0} (g : Ghosts D) (shape : Shape) (head body : ℕ) (old new : D) (library : List ℕ)
+pub record FindsBank {D : Type 0} (g : Ghosts D) (shape : BankFormat) (head body : ℕ) (old new : D) (library : List ℕ)
     (table : TableValue) (gate : ℕ) : Type 0 where
   pub found : IsTrue (g.is_honest new)
       → IsBank shape (from_place head (g.contents old)) (from_place body (g.contents old)) library table gate
@@ -91,7 +91,7 @@ pub record Refuses {D : Type 0} (g : Ghosts D) (wanted : Option (List ℕ)) (old
   pub says : IsTrue (g.is_honest new) → RefusalSays wanted (g.size_of old) (g.contents old) fault
   -- a disk that is too small or not formatted is found to be so before memory is allocated
   pub early : IsTrue (g.is_honest new) → IsForeign (g.size_of old) (g.contents old) → ComesOfForeign fault
-  pub cause : IsCaused (g.failures_of old) (g.failures_of new) fault
+  pub cause : IsCausedOpenFault (g.failures_of old) (g.failures_of new) fault
   -- Read is returned after everything written is on the device, and Write if the first sync failed
   pub tells : IsTrue (g.is_honest new) → DeviceTells (g.contents old) (g.image old) (g.image new) fault
   -- at most twelve calls, and one for every two bytes of the disk; two if it is no store, four for its format, six
@@ -143,7 +143,7 @@ pub record RefusesAny {D : Type 0} (g : Ghosts D) (disk new : D) (fault : OpenFa
   pub early : IsTrue (g.is_honest new) → IsForeign (g.size_of disk) (g.contents disk) → ComesOfForeign fault
   pub any_library : fault ≡ LibraryDiffers → ⊥
   pub any_format : fault ≡ OldFormat → ⊥
-  pub cause : IsCaused (g.failures_of disk) (g.failures_of new) fault
+  pub cause : IsCausedOpenFault (g.failures_of disk) (g.failures_of new) fault
   pub tells : IsTrue (g.is_honest new) → DeviceTells (g.contents disk) (g.image disk) (g.image new) fault
   -- at most ten calls, and one for every two bytes of the disk; two if it is no store
   pub calls : IsTrue (g.is_honest new) → g.moment new ≤ g.moment disk + moments_until (20 + g.size_of disk) fault

@@ -1,38 +1,14 @@
--- What the writing calls of an open store leave of it. (This project's choice.)
-use Rattle.std.specs.Prelude.{◌≡◌, ◌↔◌, ℕ, ◌+◌, ◌*◌, ◌-◌, ◌≤◌, IsTrue, true, false, List, length, Result, OnOk, OnErr}
-use Rattle.std.specs.Prelude.{IsErrOf}
-use Rattle.oa_disk.specs.Disk.{HasCounted}
+-- Definitions for contracts and proofs, beside promise/Writing.
+use Rattle.std.specs.Prelude.{◌≡◌, ◌↔◌, ℕ, ◌+◌, ◌-◌, ◌≤◌, true, false, List, length, Result, OnOk, OnErr, IsErrOf}
 use Rattle.oa_disk.specs.declared.disk.DeviceFault.{DeviceFault}
 use Rattle.oa_disk.specs.declared.disk.DeviceFault.TheVariants.{Write}
 use Rattle.oa_disk.specs.declared.disk.Disk.{Ghosts}
 use Rattle.oa_journal.specs.Append.{group_of}
-use Rattle.oa_journal.specs.Banks.{first_gate}
-use Rattle.oa_journal.specs.Shapes.{ample_bytes, body_bytes}
-use Rattle.oa_store.specs.Calls.{most_checkpoint_calls}
+use Rattle.oa_journal.specs.promise.Bank.{first_gate, ample_bytes, body_bytes}
 use Rattle.oa_store.specs.declared.fault.WriteFault.{WriteFault}
 use Rattle.oa_store.specs.declared.fault.WriteFault.TheVariants as faults
 use Rattle.oa_store.specs.declared.store.Store.{Store}
-use Rattle.oa_table.specs.Tables.{TableValue}
-
--- What every call keeps: the rules of the device's failures, and the store's format.
-pub record Goes {D : Type 0} {g : Ghosts D} (old new : Store D g) : Type 0 where
-  pub honest : g.is_honest new.disk ≡ g.is_honest old.disk
-  pub size : g.size_of new.disk ≡ g.size_of old.disk
-  pub failures : g.failures_of old.disk ≤ g.failures_of new.disk
-  -- no call follows one that has failed
-  pub once : g.failures_of new.disk ≤ g.failures_of old.disk + 1
-  pub shape : new.bank.shape ≡ old.bank.shape
-  -- the store stops only if a call has failed, and then for good
-  pub stops : old.stopped ≡ false → new.stopped ≡ true → HasCounted (g.failures_of old.disk) (g.failures_of new.disk)
-  pub stays : old.stopped ≡ true → (new.stopped ≡ true) × (new.disk ≡ old.disk)
-  -- each failed call is reported
-  pub unfailed : new.stopped ≡ false → g.failures_of new.disk ≡ g.failures_of old.disk
-
--- It makes at most the calls of one checkpoint, whatever that writes.
-abbrev pub CallsForOneCheckpoint : {D : Type 0} {g : Ghosts D} → Store D g → Store D g → Type 0
-CallsForOneCheckpoint {D} {g} old new =
-    IsTrue (g.is_honest old.disk)
-    → g.moment new.disk ≤ g.moment old.disk + 2 * most_checkpoint_calls (body_bytes old.bank.shape)
+use Rattle.oa_table.specs.promise.Tables.{TableValue}
 
 -- The store has not stopped exactly if `Ok` is returned. One error means that it had stopped before, the other that a
 -- write has failed.

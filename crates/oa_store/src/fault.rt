@@ -15,8 +15,8 @@ pub enum FormatFault {
     /// The disk has fewer bytes than those of format 1 and two bodies of the given size.
     #[error("disk too small")]
     TooSmall,
-    /// A call of the device failed. The disk has its old contents except for its first byte, or no store, or the new
-    /// store.
+    /// A call of the device failed. The disk has its old contents except for its first byte, or no
+    /// store, or the new store.
     #[error("device: {0}")]
     Device(DeviceFault),
     /// An allocation failed. Nothing was done.
@@ -24,8 +24,9 @@ pub enum FormatFault {
     Memory,
 }
 
-/// Why a store could not be opened. The size, the first byte, the head of the bank, its format, its library, its
-/// snapshot and its groups are checked in this order, and the first error is returned.
+/// Why a store could not be opened. The checks are of the size, the first byte, the head of the
+/// bank, its format, its library, its snapshot and its groups. They are made in this order, and the
+/// first error is returned.
 #[derive(Clone, Copy, Debug, PartialEq, Eq, Error)]
 pub enum OpenFault {
     /// The disk has fewer bytes than a store, or its first byte is not 1.
@@ -81,7 +82,8 @@ impl From<FindFault> for OpenFault {
     }
 }
 
-/// Why the head of the bank in use could not be read. No library is compared, and both formats are accepted.
+/// Why the head of the bank in use could not be read. No library is compared, and both formats are
+/// accepted.
 #[derive(Clone, Copy)]
 pub(crate) enum FindFault {
     /// The disk has fewer bytes than a store, or its first byte is not 1.
@@ -134,12 +136,12 @@ pub enum UpgradeFault {
     /// The store already has format 2.
     #[error("already format 2")]
     AlreadyNew,
-    /// The bytes at this place of the disk are not a valid head, table or group; 0 if the table or the library is too
-    /// large.
+    /// The bytes at this place of the disk are not a valid head, table or group; 0 if the table or
+    /// the library is too large.
     #[error("damaged at {0}")]
     Damaged(u64),
-    /// A call of the device failed. If it was a read, nothing was written; otherwise the store is whole, in format 1
-    /// or format 2.
+    /// A call of the device failed. If it was a read, nothing was written; otherwise the store is
+    /// whole, in format 1 or format 2.
     #[error("device: {0}")]
     Device(DeviceFault),
     /// An allocation failed. Nothing was written.
@@ -178,8 +180,13 @@ pub enum WriteFault {
     /// The device failed an earlier call. No call was made.
     #[error("the store has stopped")]
     Stopped,
-    /// The device failed a call. The group is in the store whole or not at all; the selector names the old bank or
-    /// the other one.
+    /// The device failed a call. The group is in the store whole or not at all; the selector names
+    /// the old bank or the other one.
     #[error("device: {0}")]
     Device(DeviceFault),
 }
+
+/// A call of the device failed, and the store has stopped.
+#[derive(Clone, Copy, Debug, PartialEq, Eq, Error)]
+#[error("the device has failed")]
+pub struct DeviceFailed;

@@ -1,52 +1,55 @@
 //! The bytes before the banks: the first one, and the selector.
 ghost use Rattle.std.specs.Prelude.{◌≡◌, ◌+◌, ◌<◌, ◌≤◌, IsTrue, length, vec_capacity, slice_index, IfOk, IfErr, IsErrOf};
 ghost use Rattle.oa_disk.specs.After.{AfterCalls};
-ghost use Rattle.oa_disk.specs.Disk.{CountsFailures};
+ghost use Rattle.oa_disk.specs.promise.Disk.{CountsFailures};
 ghost use Rattle.oa_disk.specs.declared.disk.DeviceFault.{DeviceFault};
-ghost use Rattle.oa_model.specs.Limits.{max_library_bytes};
+ghost use Rattle.oa_model.specs.promise.Limits.{max_library_bytes};
 ghost use Rattle.oa_store.specs.declared.fault.FindFault.{FindFault};
-ghost use Rattle.oa_store.specs.Calls.{piece_bytes};
-ghost use Rattle.oa_store.specs.Faults.{of_finding, moments_until};
+ghost use Rattle.oa_store.specs.promise.Stores.{piece_bytes, store_bytes, body_place, head_place};
+ghost use Rattle.oa_store.specs.Faults.{of_finding};
+ghost use Rattle.oa_store.specs.promise.Faults.{moments_until};
 ghost use Rattle.oa_store.specs.Openings.{FindsChosen, FindsFormatted, RefusesChosen, RefusesFormatted};
-ghost use Rattle.oa_journal.specs.Reads.{WritesNothing};
-ghost use Rattle.oa_journal.specs.Shapes.{body_bytes, disk_bytes, IsShape};
-ghost use Rattle.oa_store.specs.Stores.{store_bytes, body_place, head_place};
+ghost use Rattle.oa_journal.specs.promise.Bank.{WritesNothing, body_bytes, disk_bytes, IsShape};
 
 use crate::fault::FindFault;
 use oa_disk::{DeviceFault, Disk};
-use oa_journal::{FORMAT_ONE_BODY_BYTES, FORMAT_ONE_BYTES, Head, Shape, read_head};
+use oa_journal::{BankFormat, BankHead, FORMAT_ONE_BODY_BYTES, FORMAT_ONE_BYTES, read_head};
 use oa_model::MAX_LIBRARY_BYTES;
 use std::alloc::{AllocError, Global};
 
-/// The least size of a disk that has a store.
+/// The least size in bytes of a disk that has a store.
 pub(crate) const STORE_BYTES: u64 = FORMAT_ONE_BYTES;
 
-/// The place of the selector.
+/// The place of the selector, in bytes from the start of the disk.
 pub(crate) const SELECTOR: u64 = 4096;
 
-/// The place of the first bank's head.
+/// The place of the first bank's head, in bytes from the start of the disk.
 const FIRST_HEAD: u64 = 8_192;
 
-/// The distance from the first bank's head to the second one's: a head and a body of format 1.
+/// The distance in bytes from the first bank's head to the second one's: a head and a body of
+/// format 1.
 const NEXT_HEAD: u64 = 32 + FORMAT_ONE_BODY_BYTES as u64;
 
 /// The size in bytes of the buffer through which banks are written and read.
 const PIECE_BYTES: usize = 65_536;
 
+/// Returns `count` bytes of 0. Err: the allocation failed.
 fn zeros(alloc: Global, count: usize) -> Result<Vec<u8>, AllocError>
     ensures { IfOk result (λ bytes. length bytes.items ≡ count) }
 {
     vec![in alloc; 0; count]
 }
 
-/// Allocates the buffer through which banks are written and read.
+/// Returns a buffer of `PIECE_BYTES` bytes, through which banks are written and read. Err: the
+/// allocation failed.
 pub(crate) fn buffer(alloc: Global) -> Result<Vec<u8>, AllocError>
     ensures { IfOk result (λ bytes. length bytes.items ≡ piece_bytes) }
 {
     zeros(alloc, PIECE_BYTES)
 }
 
-/// Returns the place of the head of a bank, in either format.
+/// Returns the place of the head of bank 0 or 1, in either format, in bytes from the start of the
+/// disk.
 pub(crate) fn head_place(bank: u8) -> u64
     requires { bank < 2 }
     ensures value { result ≡ head_place bank }
@@ -55,8 +58,8 @@ pub(crate) fn head_place(bank: u8) -> u64
     FIRST_HEAD + u64::from(bank) * NEXT_HEAD
 }
 
-/// Returns the place of the body of a bank.
-pub(crate) fn body_place(shape: Shape, bank: u8) -> u64
+/// Returns the place of the body of bank 0 or 1, in bytes from the start of the disk.
+pub(crate) fn body_place(shape: BankFormat, bank: u8) -> u64
     requires two { bank < 2 }
     requires known { IsShape shape }
     ensures value { result ≡ body_place shape bank }
@@ -64,12 +67,12 @@ pub(crate) fn body_place(shape: Shape, bank: u8) -> u64
     ensures behind { head_place bank + 32 ≤ result }
 {
     match shape {
-        Shape::One => FIRST_HEAD + 32 + u64::from(bank) * NEXT_HEAD,
-        Shape::Two(size) => FORMAT_ONE_BYTES + u64::from(bank) * u64::from(size),
+        BankFormat::One => FIRST_HEAD + 32 + u64::from(bank) * NEXT_HEAD,
+        BankFormat::Two(size) => FORMAT_ONE_BYTES + u64::from(bank) * u64::from(size),
     }
 }
 
-/// Reads the byte at that place.
+/// Reads the byte at place `at` of the disk. Err: the read failed.
 fn read_byte<D: Disk>(disk: &mut D, at: u64) -> Result<u8, DeviceFault>
     requires { at < D.size_of disk.old }
     ensures byte { IfOk result (λ byte. IsTrue (D.is_honest disk.new) → slice_index (D.contents disk.old) at ≡ byte) }
@@ -86,8 +89,9 @@ fn read_byte<D: Disk>(disk: &mut D, at: u64) -> Result<u8, DeviceFault>
     Ok(bytes[0])
 }
 
-/// Returns the number of the bank in use, on a disk that is formatted. It begins with a sync, so what it finds is
-/// what a crash leaves.
+/// Returns the number of the bank in use, 0 or 1. It begins with a sync, so what it finds is what a
+/// crash leaves. Errors: `NotAStore` if the disk has fewer than `STORE_BYTES` bytes or its first
+/// byte is not 1; `Device`.
 pub(crate) fn find_bank<D: Disk>(disk: &mut D) -> Result<u8, FindFault>
     ensures found { IfOk result (λ chosen. FindsFormatted D.Disk chosen disk.old disk.new) }
     ensures refused { IfErr result (λ e. RefusesFormatted D.Disk disk.old disk.new e) }
@@ -107,8 +111,9 @@ pub(crate) fn find_bank<D: Disk>(disk: &mut D) -> Result<u8, FindFault>
     Ok(selector % 2)
 }
 
-/// Returns the number of the bank in use, and its head.
-pub(crate) fn find_head<D: Disk>(disk: &mut D) -> Result<(u8, Head), FindFault>
+/// Returns the number of the bank in use, 0 or 1, and its head. Errors are those of `find_bank`,
+/// and `Damaged` for the head.
+pub(crate) fn find_head<D: Disk>(disk: &mut D) -> Result<(u8, BankHead), FindFault>
     ensures found { IfOk result (λ r. FindsChosen D.Disk r.0 r.1 disk.old disk.new) }
     ensures refused { IfErr result (λ e. RefusesChosen D.Disk disk.old disk.new e) }
     ensures memory { IsErrOf result FindFault.Memory → ⊥ }
@@ -125,15 +130,18 @@ pub(crate) fn find_head<D: Disk>(disk: &mut D) -> Result<(u8, Head), FindFault>
 /// The number of the bank in use, its head, and the memory that a store needs.
 #[derive(Drop)]
 pub(crate) struct Room {
+    /// The number of the bank in use, 0 or 1.
     pub chosen: u8,
-    pub head: Head,
+    /// The head of that bank.
+    pub head: BankHead,
     /// The buffer through which banks are written and read.
     pub buffer: Vec<u8>,
     /// Empty, with capacity for any library.
     pub library: Vec<u8>,
 }
 
-/// Finds the bank in use and its head, and allocates the memory of a store before it reads the head.
+/// Finds the bank in use and its head, and allocates the memory of a store before it reads the
+/// head. Errors are those of `find_head`, and `Memory`.
 pub(crate) fn find_room<D: Disk>(alloc: Global, disk: &mut D) -> Result<Room, FindFault>
     ensures found { IfOk result (λ r. FindsChosen D.Disk r.chosen r.head disk.old disk.new) }
     ensures refused { IfErr result (λ e. RefusesChosen D.Disk disk.old disk.new e) }

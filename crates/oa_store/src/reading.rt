@@ -1,41 +1,48 @@
 //! Reading a store.
 ghost use Rattle.std.specs.Prelude.{◌≡◌, ◌↔◌, ◌+◌, ◌-◌, ◌<◌, ◌≤◌, ℕ, false, Some, IsTrue, IfOk, IfErr, IsErrOf};
 ghost use Rattle.std.specs.Prelude.{length, vec_capacity};
-ghost use Rattle.oa_model.specs.Limits.{max_library_bytes};
+ghost use Rattle.oa_model.specs.promise.Limits.{max_library_bytes};
 ghost use Rattle.oa_disk.specs.After.{AfterCalls};
 ghost use Rattle.oa_journal.specs.Append.{IsAt};
 ghost use Rattle.oa_journal.specs.Damages.{IsDamagedBank};
-ghost use Rattle.oa_journal.specs.Reads.{AfterReads, WritesNothing};
-ghost use Rattle.oa_journal.specs.Shapes.{body_bytes, IsShape};
+ghost use Rattle.oa_journal.specs.Reads.{AfterReads};
+ghost use Rattle.oa_journal.specs.promise.Bank.{WritesNothing, body_bytes, IsShape};
 ghost use Rattle.oa_journal.specs.declared.bank.BankFault.{BankFault};
 ghost use Rattle.oa_store.specs.Openings.{Finds, FindsAny, FindsBank, Refuses, RefusesAny};
-ghost use Rattle.oa_store.specs.Stores.{body_place, head_place, BankWithin};
+ghost use Rattle.oa_store.specs.promise.Stores.{body_place, head_place};
+ghost use Rattle.oa_store.specs.Stores.{BankWithin};
 
 use crate::OpenFault;
 use crate::head::{Room, body_place, buffer, find_head, find_room, head_place};
 use oa_disk::Disk;
-use oa_journal::{Bank, BankFault, Shape};
+use oa_journal::{Bank, BankFault, BankFormat};
 use oa_table::Table;
 use std::alloc::Global;
 
 /// A store that was found on a disk.
 #[derive(Drop)]
 pub(crate) struct Found {
+    /// The text of the library, with capacity for any library.
     pub library: Vec<u8>,
+    /// The table, without locks.
     pub table: Table,
+    /// The number of the bank in use, 0 or 1.
     pub chosen: u8,
+    /// The bank in use.
     pub bank: Bank,
+    /// The buffer through which banks are written and read.
     pub buffer: Vec<u8>,
 }
 
+/// Returns whether two slices have the same bytes.
 fn same(one: &[u8], other: &[u8]) -> bool
     ensures { IsTrue result ↔ (one.now ≡ other.now) }
 {
     one == other
 }
 
-/// Returns the bank of that number in that format.
-pub(crate) fn bank_of(shape: Shape, number: u8) -> Bank
+/// Returns the bank with this number, 0 or 1, of a store of that format.
+pub(crate) fn bank_of(shape: BankFormat, number: u8) -> Bank
     requires two { number < 2 }
     requires known { IsShape shape }
     ensures { IsAt shape (head_place number) (body_place shape number) (body_bytes shape - 1) false result }
@@ -43,7 +50,8 @@ pub(crate) fn bank_of(shape: Shape, number: u8) -> Bank
     Bank::at(head_place(number), body_place(shape, number), shape)
 }
 
-/// Reads the store on the disk, which must be one of this library in format 2.
+/// Reads the store on the disk, which must have `library` and format 2. Errors are those of
+/// `OpenFault`, in its order. `library` of the result has capacity for any library.
 pub(crate) fn find_store<D: Disk>(
     alloc: Global,
     disk: &mut D,
@@ -60,10 +68,11 @@ pub(crate) fn find_store<D: Disk>(
     ensures after { AfterCalls D.Disk disk.old disk.new result }
 {
     let found = find_room(alloc, disk)?;
-    if let Shape::One = found.head.shape {
+    if let BankFormat::One = found.head.shape {
         return Err(OpenFault::OldFormat);
     }
-    // (a head may give any length for its library, so the library is read only if the length is right)
+    // (a head may give any length for its library, so the library is read only if the length is
+    // right)
     if found.head.library as usize != library.len() {
         return Err(OpenFault::LibraryDiffers);
     }
@@ -89,12 +98,13 @@ pub(crate) fn find_store<D: Disk>(
     })
 }
 
-/// Reads the library and the table of a bank by its head.
+/// Reads library and table of bank `chosen` (0 or 1), through `buffer`, which is returned. Errors:
+/// `Damaged` with the place on the disk of the first invalid part; `Memory`; `Device`.
 pub(crate) fn look<D: Disk>(
     alloc: Global,
     disk: &mut D,
     chosen: u8,
-    shape: Shape,
+    shape: BankFormat,
     buffer: Vec<u8>,
 ) -> Result<(Vec<u8>, Table, Bank, Vec<u8>), BankFault>
     requires some { 5 ≤ length buffer.items }
@@ -111,8 +121,9 @@ pub(crate) fn look<D: Disk>(
     Ok((library, table, bank, buffer))
 }
 
-/// Reads the library and the table of the store on the disk, with any library, in either format. It writes nothing,
-/// and begins with a sync. Errors: `NotAStore`, `Damaged`, `Memory`, `Device`.
+/// Returns the library and the table of the store on the disk, with any library, in either format.
+/// It writes nothing, and begins with a sync. Errors: `NotAStore`; `Damaged`, with the place on the
+/// disk of the first invalid part; `Memory`; `Device`.
 pub fn inspect<D: Disk>(alloc: Global, disk: &mut D) -> Result<(Vec<u8>, Table), OpenFault>
     ensures found { IfOk result (λ r. FindsAny D.Disk disk.old disk.new r.0.items r.1) }
     ensures refused { IfErr result (λ e. RefusesAny D.Disk disk.old disk.new e) }

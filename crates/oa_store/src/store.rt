@@ -1,16 +1,14 @@
 //! An open store.
 ghost use Rattle.std.specs.Prelude.{◌≡◌, ◌↔◌, ◌+◌, ◌*◌, ◌-◌, ◌<◌, ◌≤◌, false, true, IsTrue, length, IfErr, IfOk, OnOk, vec_capacity};
 ghost use Rattle.oa_disk.specs.After.{AfterCalls, Leaves};
-ghost use Rattle.oa_model.specs.Limits.{max_library_bytes};
-ghost use Rattle.oa_table.specs.Tables.{unlocked_table};
-ghost use Rattle.oa_image.specs.Tables.{is_numbered, reserved_bytes, table_image};
-ghost use Rattle.oa_journal.specs.Shapes.{ample_bytes, body_bytes, disk_bytes, format_of};
+ghost use Rattle.oa_model.specs.promise.Limits.{max_library_bytes};
+ghost use Rattle.oa_table.specs.promise.Tables.{unlocked_table};
+ghost use Rattle.oa_image.specs.promise.Tables.{is_numbered, reserved_bytes, table_image};
+ghost use Rattle.oa_journal.specs.promise.Bank.{ample_bytes, body_bytes, disk_bytes, format_of, first_gate};
+ghost use Rattle.oa_journal.specs.promise.Bank.{WritesNothing};
 ghost use Rattle.oa_journal.specs.Append.{group_of};
-ghost use Rattle.oa_journal.specs.Banks.{first_gate};
-ghost use Rattle.oa_journal.specs.Reads.{WritesNothing};
-ghost use Rattle.oa_store.specs.Calls.{piece_bytes, checkpoint_calls};
+ghost use Rattle.oa_store.specs.promise.Stores.{piece_bytes, checkpoint_calls, body_place, head_place};
 ghost use Rattle.oa_store.specs.Changes.{IsCommit, IsCommitted, IsReplacement, IsReplaced, IsSwitch, IsSwitched};
-ghost use Rattle.oa_store.specs.Stores.{body_place, head_place};
 
 use crate::reading::find_store;
 use crate::switching::switch_to;
@@ -20,9 +18,9 @@ use oa_journal::{AMPLE_BYTES, AppendFault, Bank};
 use oa_table::Table;
 use std::alloc::Global;
 
-/// An open store over a disk. Its two banks take turns: a commit appends a group to the bank in use, and a checkpoint
-/// switches to the other bank. After a fault of the device the store has stopped: it makes no further call, and
-/// returns `Stopped`.
+/// An open store over a disk. Its two banks take turns: a commit appends a group to the bank in
+/// use, and a checkpoint switches to the other bank. After a fault of the device the store has
+/// stopped: it makes no further call, and returns `Stopped`.
 #[derive(Drop)]
 pub struct Store<D: Disk> {
     disk: D,
@@ -47,11 +45,12 @@ pub struct Store<D: Disk> {
 impl<D: Disk> Store<D> {
     ghost use Rattle.oa_store.specs.declared.fault.WriteFault.{WriteFault};
     ghost use Rattle.oa_store.specs.Openings.{FindsStore, RefusesDisk, Starts};
-    ghost use Rattle.oa_store.specs.Writing.{AddsGroup, Goes, StopsAtFault, SwitchesBank};
+    ghost use Rattle.oa_store.specs.Writing.{AddsGroup, StopsAtFault, SwitchesBank};
+    ghost use Rattle.oa_store.specs.promise.Writing.{DeviceFrame};
 
-    /// Opens the store of this library on the disk, and returns it with its table, which has no locks. It writes
-    /// nothing, and begins with a sync. An error returns the disk, too: `NotAStore`, `OldFormat`, `LibraryDiffers`,
-    /// `Damaged`, `Memory`, `Device`.
+    /// Opens the store of `library` on the disk, and returns it with its table, which has no locks.
+    /// It writes nothing, and begins with a sync. An error returns the disk, too: `NotAStore`,
+    /// `OldFormat`, `LibraryDiffers`, `Damaged`, `Memory`, `Device`, in the order of `OpenFault`.
     pub fn open(alloc: Global, disk: D, library: &[u8]) -> Result<(Store<D>, Table), (D, OpenFault)>
         requires { length library.now ≤ max_library_bytes }
 
@@ -80,8 +79,8 @@ impl<D: Disk> Store<D> {
         }
     }
 
-    /// Returns how many bytes the bank in use has from its closed gate on. A group of n bytes uses n + 5 of them, and
-    /// at least one is left.
+    /// Returns how many bytes the bank in use has from its closed gate on. A group of n bytes uses
+    /// n + 5 of them, and at least one is left.
     pub fn room(&self) -> u32
         ensures { result ≡ body_bytes self.now.bank.shape - self.now.bank.gate }
     {
@@ -95,7 +94,8 @@ impl<D: Disk> Store<D> {
         self.bank.size()
     }
 
-    /// Returns whether a checkpoint must be made before the next group.
+    /// Returns whether a checkpoint must be made before the next group: the bank in use has fewer
+    /// than `AMPLE_BYTES` bytes from its closed gate on.
     pub fn checkpoint_due(&self) -> bool
         ensures { IsTrue result ↔ (body_bytes self.now.bank.shape - self.now.bank.gate < ample_bytes) }
     {
@@ -109,7 +109,7 @@ impl<D: Disk> Store<D> {
         self.stopped
     }
 
-    /// Returns `Stopped` if the store has stopped.
+    /// Returns `Err(Stopped)` if the store has stopped.
     fn going(&self) -> Result<(), WriteFault>
         ensures going { OnOk result (self.now.stopped ≡ false) }
         ensures stopped { IfErr result (λ e. (e ≡ WriteFault.Stopped) × (self.now.stopped ≡ true)) }
@@ -135,23 +135,24 @@ impl<D: Disk> Store<D> {
         disk
     }
 
-    /// Commits a group of events in at most four calls of the disk. The group is in `batch` between four free bytes
-    /// and one, and only these may change. Allocates nothing. Errors: `Stopped`; `Device`, after which, and only
-    /// then, the store has stopped.
+    /// Commits a group of events in at most four calls of the disk. The group is in `batch` between
+    /// four free bytes and one, and only these may change. Allocates nothing. Errors: `Stopped`;
+    /// `Device`, after which, and only then, the store has stopped.
     ///
-    /// That the events apply to the committed table is a premise of what the images hold, not a condition of the
-    /// call.
+    /// That the events apply to the committed table is a premise of what the images hold, not a
+    /// condition of the call.
     pub fn commit(&mut self, batch: &mut [u8]) -> Result<(), WriteFault>
         requires some { 5 < length batch.old }
         requires fits { self.old.bank.gate + length batch.old < body_bytes self.old.bank.shape }
 
-        // (a crash at any point in time leaves the old store, with the group or without it, and at `Ok` with it)
+        // (a crash at any point in time leaves the old store, with the group or without it, and at
+        // `Ok` with it)
         ensures leaves { Leaves D.Disk (IsCommit self.old.bank.shape self.old.chosen self.old.bank.gate (group_of batch.old))
             (IsCommitted self.old.bank.shape self.old.chosen self.old.bank.gate (group_of batch.old)) self.old.disk self.new.disk result }
         ensures adds { AddsGroup batch.old self.old self.new result }
         ensures kept { group_of batch.new ≡ group_of batch.old }
         ensures stops { StopsAtFault self.old self.new result }
-        ensures goes { Goes self.old self.new }
+        ensures goes { DeviceFrame self.old self.new }
         // (at most four calls)
         ensures calls { IsTrue (D.is_honest self.old.disk) → D.moment self.new.disk ≤ D.moment self.old.disk + 8 }
     {
@@ -166,16 +167,17 @@ impl<D: Disk> Store<D> {
         }
     }
 
-    /// Writes this table to the other bank, without groups, and switches to that bank. Allocates nothing. Errors:
-    /// `Stopped`; `Device`, after which, and only then, the store has stopped.
+    /// Writes this table to the other bank, without groups, and switches to that bank. Allocates
+    /// nothing. Errors: `Stopped`; `Device`, after which, and only then, the store has stopped.
     ///
-    /// That the table, its locks apart, is the committed one is a premise of what the images hold, not a condition of
-    /// the call.
+    /// That the table, its locks apart, is the committed one is a premise of what the images hold,
+    /// not a condition of the call.
     pub fn checkpoint(&mut self, table: &Table) -> Result<(), WriteFault>
         requires fits { length (table_image table.now) + reserved_bytes ≤ body_bytes self.old.bank.shape }
         requires numbered { is_numbered table.now ≡ true }
 
-        // (a crash at any point in time leaves a store of the same table, and at `Ok` in the other bank)
+        // (a crash at any point in time leaves a store of the same table, and at `Ok` in the other
+        // bank)
         ensures leaves { Leaves D.Disk
             (IsSwitch self.old.bank.shape self.old.chosen self.old.bank.gate self.old.bank.shape (first_gate self.old.library.items table.now)
             self.old.library.items (unlocked_table table.now))
@@ -184,7 +186,7 @@ impl<D: Disk> Store<D> {
             self.old.disk self.new.disk result }
         ensures switches { SwitchesBank self.old.library.items table.now self.old self.new result }
         ensures stops { StopsAtFault self.old self.new result }
-        ensures goes { Goes self.old self.new }
+        ensures goes { DeviceFrame self.old self.new }
         ensures calls { IsTrue (D.is_honest self.old.disk)
             → D.moment self.new.disk ≤ D.moment self.old.disk + 2 * checkpoint_calls self.old.library.items table.now }
     {
@@ -210,15 +212,16 @@ impl<D: Disk> Store<D> {
         }
     }
 
-    /// Makes a checkpoint with another library, which later checkpoints then have, too. `open` has allocated the
-    /// memory for it. Errors as of `checkpoint`.
+    /// Makes a checkpoint with another library, of at most `MAX_LIBRARY_BYTES` bytes, which later
+    /// checkpoints then have, too. `open` has allocated the memory for it. Errors: `Stopped`;
+    /// `Device`, after which, and only then, the store has stopped.
     pub fn checkpoint_with(&mut self, library: &[u8], table: &Table) -> Result<(), WriteFault>
         requires fits { length (table_image table.now) + reserved_bytes ≤ body_bytes self.old.bank.shape }
         requires numbered { is_numbered table.now ≡ true }
         requires short { length library.now ≤ max_library_bytes }
 
-        // (a crash at any point in time leaves the old store, or one of the other library and the same table, and at
-        // `Ok` the latter)
+        // (a crash at any point in time leaves the old store, or one of the other library and the
+        // same table, and at `Ok` the latter)
         ensures leaves { Leaves D.Disk
             (IsReplacement self.old.bank.shape self.old.chosen self.old.bank.gate self.old.bank.shape (first_gate library.now table.now)
             self.old.library.items library.now (unlocked_table table.now))
@@ -227,7 +230,7 @@ impl<D: Disk> Store<D> {
             self.old.disk self.new.disk result }
         ensures switches { SwitchesBank library.now table.now self.old self.new result }
         ensures stops { StopsAtFault self.old self.new result }
-        ensures goes { Goes self.old self.new }
+        ensures goes { DeviceFrame self.old self.new }
         ensures calls { IsTrue (D.is_honest self.old.disk)
             → D.moment self.new.disk ≤ D.moment self.old.disk + 2 * checkpoint_calls library.now table.now }
     {

@@ -6,7 +6,8 @@ use Rattle.std.specs.Io.KnownBytes.{Appends, Keeps}
 use Rattle.std.proofs.KnownBytes.{Appends-nil, Appends-trans}
 use lib.Seq.{take-add}
 use Rattle.oa_stream.specs.declared.sink.Unwritten.{Unwritten}
-use Rattle.oa_stream.specs.Sink.{Output, Writes, Breaks, Puts}
+use Rattle.oa_stream.specs.promise.Sink.{Output, Writes, Breaks}
+use Rattle.oa_stream.specs.Sink.{Puts}
 
 pub appends_kept : (a b c : Option (List ℕ)) (bytes : List ℕ) → Appends a b bytes → Keeps b c → Appends a c bytes
 appends_kept None b c bytes p k = tt
@@ -15,7 +16,8 @@ appends_kept (Some x) (Some y) None bytes p k = absurd k
 appends_kept (Some x) (Some y) (Some z) bytes p k = k ∙ p
 
 -- some more came
-pub appends_more : (a b c : Option (List ℕ)) (bytes : List ℕ) (at n : ℕ) → Appends a b (take at bytes) → Appends b c (take n (take (length bytes - at) (drop at bytes))) → Appends a c (take (at + n) bytes)
+pub appends_more : (a b c : Option (List ℕ)) (bytes : List ℕ) (at n : ℕ) → Appends a b (take at bytes)
+    → Appends b c (take n (take (length bytes - at) (drop at bytes))) → Appends a c (take (at + n) bytes)
 appends_more a b c bytes at n p q =
     let all : take (length bytes - at) (drop at bytes) ≡ drop at bytes = take_all (length bytes - at) (drop at bytes) (rw (length-drop at bytes) (le_refl _)) in
     rw (take-add at n bytes) (Appends-trans a b c (take at bytes) (take n (drop at bytes)) p (rw all at q))
@@ -91,7 +93,8 @@ puts_then (Ok u) a b c xs ys p q = writes_then a b c xs ys p q
 puts_then (Err e) a b c xs ys p q = breaks_after a b c xs ys p q
 
 -- a writer that keeps nothing back and promises nothing broke after some bytes
-pub stays_broken : (old new : Output) (bytes : List ℕ) (at : ℕ) → old.kept ≡ [] → old.room ≡ 0 → Appends old.reached new.reached (take at bytes) → new.broken ≡ true → Breaks old new bytes
+pub stays_broken : (old new : Output) (bytes : List ℕ) (at : ℕ) → old.kept ≡ [] → old.room ≡ 0 → Appends old.reached new.reached (take at bytes)
+    → new.broken ≡ true → Breaks old new bytes
 stays_broken old new bytes at none zero p h = record {
   gone = take at bytes;
   lost = drop at bytes;

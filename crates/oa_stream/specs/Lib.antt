@@ -1,7 +1,8 @@
 pub mod Source
 pub mod Sink
-pub mod Inlet
-pub mod Ahead
-pub mod Outlet
-pub mod Behind
+pub mod StdSource
+pub mod BufferedSource
+pub mod StdSink
+pub mod BufferedSink
 pub mod Memory
+pub mod promise

@@ -1,7 +1,7 @@
 //! A buffer between a reader and its caller.
 ghost use Rattle.std.specs.Prelude.{◌≡◌, ◌≤◌, ◌-◌, ◌++◌, [], false, length, drop, take, IfOk};
-ghost use Rattle.oa_stream.specs.Ahead.{TakesAhead, Waits, ahead, passed, read_ahead};
-ghost use Rattle.oa_stream.specs.Sink.{IsHandedOn};
+ghost use Rattle.oa_stream.specs.BufferedSource.{TakesAhead, Waits, ahead, passed, read_ahead};
+ghost use Rattle.oa_stream.specs.promise.Sink.{IsHandedOn};
 
 use crate::stretch::Front;
 use crate::{Next, Sink, Source};
@@ -22,20 +22,21 @@ pub enum More {
 
 /// A reader with a read-ahead buffer of 8,192 bytes.
 ///
-/// In contracts its input is that of the reader with the buffered bytes in front; it is steady if the reader is.
+/// In contracts its input is that of the reader with the buffered bytes in front; it is steady if
+/// the reader is.
 #[derive(Drop)]
-pub struct Ahead<R> {
+pub struct BufferedSource<R> {
     reader: R,
     front: Front,
 }
 
-impl<R: Source + Drop> Ahead<R> {
+impl<R: Source + Drop> BufferedSource<R> {
     /// Makes a reader with an empty buffer. Err: the allocation of 8,192 bytes failed.
-    pub fn new(alloc: Global, reader: R) -> Result<Ahead<R>, AllocError>
+    pub fn new(alloc: Global, reader: R) -> Result<BufferedSource<R>, AllocError>
         ensures { IfOk result (λ a. (a.reader ≡ reader) × (read_ahead a ≡ [])) }
     {
         let front = Front::new(alloc)?;
-        Ok(Ahead { reader, front })
+        Ok(BufferedSource { reader, front })
     }
 
     /// Returns the buffered bytes.
@@ -45,7 +46,8 @@ impl<R: Source + Drop> Ahead<R> {
         self.front.held()
     }
 
-    /// Consumes the first `count` buffered bytes, without a call of the reader.
+    /// Consumes the first `count` buffered bytes, of which there are that many, without a call of
+    /// the reader.
     pub fn advance(&mut self, count: usize)
         requires { count ≤ length (read_ahead self.old) }
         ensures held { read_ahead self.new ≡ drop count (read_ahead self.old) }
@@ -55,8 +57,8 @@ impl<R: Source + Drop> Ahead<R> {
         self.front.advance(count);
     }
 
-    /// Returns the last `count` consumed bytes, which are still in the buffer: at most as many as were consumed since
-    /// the last call of the reader.
+    /// Returns the last `count` consumed bytes, which are still in the buffer. `count` is at most
+    /// the number of bytes consumed since the last call of the reader.
     #[inline(always)]
     pub fn passed(&self, count: usize) -> &[u8]
         requires { count ≤ length (passed self.now) }
@@ -65,9 +67,11 @@ impl<R: Source + Drop> Ahead<R> {
         self.front.passed(count)
     }
 
-    /// Calls the reader once, after all buffered bytes were consumed. It consumes nothing.
+    /// Calls the reader once, after all buffered bytes were consumed, and returns the result. It
+    /// consumes nothing.
     ///
-    /// The caller has flushed `writer`, so a peer that waits for its output before it sends more cannot deadlock.
+    /// The caller has flushed `writer`, so a peer that waits for its output before it sends more
+    /// cannot deadlock.
     pub fn more<W: Sink>(&mut self, writer: &W) -> More
         requires none { read_ahead self.old ≡ [] }
         requires unbroken { (ahead R.input self.old).faulted ≡ false }

@@ -4,23 +4,23 @@ ghost use Rattle.oa_stream.specs.Memory.{cutting};
 
 use crate::{Next, Source};
 
-/// Bytes in memory. Each call returns at most as many as the next of the given lengths, and after the last length as
-/// many as fit. A length of 0 counts as 1.
+/// Bytes in memory. Each call returns at most the next of the given lengths, and after the last
+/// length whatever fits. A length of 0 counts as 1.
 #[derive(Drop)]
-pub struct Cutting<'a> {
+pub struct ChunkedSource<'a> {
     bytes: &'a [u8],
     lengths: &'a [usize],
 }
 
-impl<'a> Cutting<'a> {
-    /// Makes a reader of these bytes in chunks of these lengths.
-    pub fn new(bytes: &'a [u8], lengths: &'a [usize]) -> Cutting<'a>
+impl<'a> ChunkedSource<'a> {
+    /// Makes a reader of these bytes in chunks of these lengths, in bytes.
+    pub fn new(bytes: &'a [u8], lengths: &'a [usize]) -> ChunkedSource<'a>
         ensures { result.bytes.now ≡ bytes.entry.now }
     {
-        Cutting { bytes, lengths }
+        ChunkedSource { bytes, lengths }
     }
 
-    /// Returns how many bytes the next call returns at most.
+    /// Returns the greatest number of bytes of the next call.
     fn most(&mut self) -> usize
         ensures some { 0 < result }
         ensures bytes { self.new.bytes ≡ self.old.bytes }
@@ -36,7 +36,7 @@ impl<'a> Cutting<'a> {
     }
 }
 
-impl<'a> Source for Cutting<'a> {
+impl<'a> Source for ChunkedSource<'a> {
     ghost input = { cutting };
 
     fn fill(&mut self, buffer: &mut [u8]) -> Next {

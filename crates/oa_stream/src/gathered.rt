@@ -1,24 +1,25 @@
 //! A writer in memory.
 ghost use Rattle.std.specs.Prelude.{◌≡◌, false};
 ghost use Rattle.std.proofs.Common.{le_refl};
-ghost use Rattle.oa_stream.specs.Memory.{gathered_output};
+ghost use Rattle.oa_stream.specs.promise.Memory.{gathered_output};
 
 use crate::{Sink, Unwritten};
 
-/// A vector that accepts bytes while they fit or allocations succeed. It keeps nothing back, and remembers a failure.
+/// A vector that accepts bytes while they fit or allocations succeed. It keeps nothing back, and
+/// remembers a failure.
 #[derive(Drop)]
-pub struct Gathered {
+pub struct VecSink {
     bytes: Vec<u8>,
     broken: bool,
 }
 
-impl Gathered {
+impl VecSink {
     /// Makes a writer that appends to `bytes`.
-    pub fn new(bytes: Vec<u8>) -> Gathered
+    pub fn new(bytes: Vec<u8>) -> VecSink
         ensures bytes { result.bytes ≡ bytes }
         ensures unbroken { result.broken ≡ false }
     {
-        Gathered {
+        VecSink {
             bytes,
             broken: false,
         }
@@ -32,7 +33,7 @@ impl Gathered {
     }
 }
 
-impl Sink for Gathered {
+impl Sink for VecSink {
     ghost out = { gathered_output };
 
     ghost keeps = { λ _. le_refl 0 };

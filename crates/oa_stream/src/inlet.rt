@@ -1,24 +1,25 @@
 //! Readers of the standard library.
 ghost use Rattle.std.specs.Prelude.{◌≡◌, false};
-ghost use Rattle.oa_stream.specs.Inlet.{inlet};
+ghost use Rattle.oa_stream.specs.StdSource.{inlet};
 
 use crate::{Next, Source};
 use std::io::{ErrorKind, Read};
 
-/// A reader of the standard library. It promises nothing, counts its calls, and remembers a failure.
+/// A reader of the standard library. It promises nothing, counts its calls, and remembers a
+/// failure.
 #[derive(Drop)]
-pub struct Inlet<R> {
+pub struct StdSource<R> {
     reader: R,
     calls: u64,
     faulted: bool,
 }
 
-impl<R: Read> Inlet<R> {
+impl<R: Read> StdSource<R> {
     /// Makes a reader that has not been called.
-    pub fn new(reader: R) -> Inlet<R>
+    pub fn new(reader: R) -> StdSource<R>
         ensures { inlet R.remaining result ≡ record { left = R.remaining reader; calls = 0; faulted = false; steady = false } }
     {
-        Inlet {
+        StdSource {
             reader,
             calls: 0,
             faulted: false,
@@ -26,9 +27,9 @@ impl<R: Read> Inlet<R> {
     }
 }
 
-// Only `ErrorKind::Interrupted` distinguishes an interrupted call from a failure. It comes from the standard library,
-// and no contract mentions it.
-impl<R: Read> Source for Inlet<R> {
+// Only `ErrorKind::Interrupted` distinguishes an interrupted call from a failure. It comes from the
+// standard library, and no contract mentions it.
+impl<R: Read> Source for StdSource<R> {
     ghost input = { inlet R.remaining };
 
     fn fill(&mut self, buffer: &mut [u8]) -> Next {

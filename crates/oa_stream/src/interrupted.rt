@@ -27,7 +27,7 @@ impl<R: Source> Interrupted<R> {
         }
     }
 
-    /// Returns how often it was called.
+    /// Returns the number of calls.
     pub fn calls(&self) -> u64
         ensures { result ≡ self.now.calls }
     {

@@ -1,7 +1,7 @@
 //! Readers and writers of bytes, and buffers between them and their callers.
 //!
-//! Contract: `Source::fill` and `Sink::put` state what reads and writes do to bytes. No reader is called before the
-//! writer is flushed (`Ahead::more`).
+//! Contract: `Source::fill` and `Sink::put` state what reads and writes do to bytes. No reader is
+//! called before the writer is flushed (`Ahead::more`).
 //!
 //! Used by oa_frame, and by the program over standard input and output.
 #![tactic(auto)]
@@ -17,12 +17,12 @@ mod sink;
 mod source;
 mod stretch;
 
-pub use ahead::{Ahead, More};
-pub use behind::Behind;
-pub use cutting::Cutting;
-pub use gathered::Gathered;
-pub use inlet::Inlet;
+pub use ahead::{BufferedSource, More};
+pub use behind::BufferedSink;
+pub use cutting::ChunkedSource;
+pub use gathered::VecSink;
+pub use inlet::StdSource;
 pub use interrupted::Interrupted;
-pub use outlet::Outlet;
+pub use outlet::StdSink;
 pub use sink::{Sink, Unwritten};
 pub use source::{Next, Source};

@@ -1,13 +1,13 @@
 //! Writers of the standard library.
 ghost use Rattle.std.specs.Prelude.{◌≡◌, ◌⊎◌, ◌<◌, ◌≤◌, [], true, false, IsErr, length};
 ghost use Rattle.std.proofs.Common.{le_refl};
-ghost use Rattle.oa_stream.specs.Outlet.{Flushes, Took, Tried, most_tries, outlet};
+ghost use Rattle.oa_stream.specs.StdSink.{Flushes, Took, Tried, most_tries, outlet};
 ghost use Rattle.oa_stream.specs.Sink.{Delivers, Puts};
 
 use crate::{Sink, Unwritten};
 use std::io::{ErrorKind, Write};
 
-/// How many calls of a writer may be interrupted in one put or one delivery. This many count as a failure.
+/// The number of interrupted calls of a writer in one put or one delivery that count as a failure.
 pub(crate) const MOST_TRIES: usize = 4_194_304;
 
 /// The result of one call of a writer.
@@ -21,10 +21,11 @@ pub(crate) enum Taken {
     Fault,
 }
 
-/// A writer of the standard library. It promises nothing and keeps nothing back. It remembers whether it needs a
-/// flush, whether a call has failed, and how many calls were interrupted since the last put or delivery.
+/// A writer of the standard library. It promises nothing and keeps nothing back. It remembers
+/// whether it needs a flush, whether a call has failed, and how many calls were interrupted since
+/// the last put or delivery.
 #[derive(Drop)]
-pub struct Outlet<W> {
+pub struct StdSink<W> {
     writer: W,
     flushed: bool,
     broken: bool,
@@ -32,15 +33,15 @@ pub struct Outlet<W> {
     tries: usize,
 }
 
-impl<W: Write> Outlet<W> {
+impl<W: Write> StdSink<W> {
     /// Makes a writer to which nothing has been written.
-    pub fn new(writer: W) -> Outlet<W>
+    pub fn new(writer: W) -> StdSink<W>
         ensures output { outlet W.contents result
             ≡ record { reached = W.contents writer; kept = []; flushed = true; back = 0; room = 0; broken = false } }
         ensures failed { result.failed ≡ false }
         ensures tries { result.tries ≡ 0 }
     {
-        Outlet {
+        StdSink {
             writer,
             flushed: true,
             broken: false,
@@ -49,7 +50,8 @@ impl<W: Write> Outlet<W> {
         }
     }
 
-    /// Makes one write call, after which a flush is needed. A call that writes no bytes is a failure.
+    /// Makes one write call, after which a flush is needed, and returns the result. A call that
+    /// writes no bytes is a failure.
     fn take(&mut self, bytes: &[u8]) -> Taken
         requires unbroken { self.old.broken ≡ false }
         requires some { 0 < length bytes.now }
@@ -73,7 +75,7 @@ impl<W: Write> Outlet<W> {
         }
     }
 
-    /// Notes that a call has failed.
+    /// Notes that a call has failed, and returns `Fault`.
     fn fail(&mut self) -> Taken
         ensures fault { result ≡ Taken.Fault }
         ensures broken { self.new.broken ≡ true }
@@ -87,7 +89,7 @@ impl<W: Write> Outlet<W> {
         Taken::Fault
     }
 
-    /// Makes one flush.
+    /// Makes one flush, and returns the result: no bytes, an interruption or a fault.
     fn flush(&mut self) -> Taken
         requires unbroken { self.old.broken ≡ false }
         requires few { self.old.tries < most_tries }
@@ -111,9 +113,9 @@ impl<W: Write> Outlet<W> {
     }
 }
 
-// Both loops repeat an interrupted call. Every other call of `put` writes at least one byte, so no loop reaches its
-// limit.
-impl<W: Write> Sink for Outlet<W> {
+// Both loops repeat an interrupted call. Every other call of `put` writes at least one byte, so no
+// loop reaches its limit.
+impl<W: Write> Sink for StdSink<W> {
     ghost out = { outlet W.contents };
 
     ghost keeps = { λ _. le_refl 0 };

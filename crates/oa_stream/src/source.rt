@@ -1,6 +1,7 @@
 //! Readers that return some bytes with each call.
 ghost use Rattle.std.specs.Prelude.{◌≡◌, ◌<◌, false, length};
-ghost use Rattle.oa_stream.specs.Source.{Fills, Input, in_memory};
+ghost use Rattle.oa_stream.specs.Source.{Fills};
+ghost use Rattle.oa_stream.specs.promise.Source.{Input, in_memory};
 
 /// The result of one read call.
 #[derive(Clone, Copy, Debug, PartialEq, Eq)]
@@ -17,13 +18,14 @@ pub enum Next {
 
 /// A reader that returns some bytes with each call.
 ///
-/// Contracts see it as an `Input`: the bytes that are still to come, how often it was called, whether it failed, and
-/// whether it promises that no call fails or is interrupted.
+/// Contracts see it as an `Input`: the bytes that are still to come, the number of calls, and
+/// whether it failed. It also says whether the reader promises that no call fails or is
+/// interrupted.
 pub trait Source {
     ghost input: { Self → Input };
 
-    /// Makes one read call into the start of `buffer`, which has at least one byte. A reader that failed is never
-    /// called again.
+    /// Makes one read call into the start of `buffer`, which has at least one byte. A reader that
+    /// failed is never called again.
     fn fill(&mut self, buffer: &mut [u8]) -> Next
         requires room { 0 < length buffer.old }
         requires unbroken { (input self.old).faulted ≡ false }

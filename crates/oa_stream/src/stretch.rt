@@ -20,7 +20,7 @@ pub struct Front {
 }
 
 impl Front {
-    /// Makes an empty buffer of `SIZE` bytes.
+    /// Makes an empty buffer of `SIZE` bytes. Err: the allocation failed.
     pub(crate) fn new(alloc: Global) -> Result<Front, AllocError>
         ensures { IfOk result (λ f. slice_range f.bytes.items f.from f.to ≡ []) }
     {
@@ -33,7 +33,7 @@ impl Front {
         })
     }
 
-    /// Returns the bytes.
+    /// Returns the bytes that were read and not consumed.
     pub(crate) fn held(&self) -> &[u8]
         ensures { result.now ≡ slice_range self.now.bytes.items self.now.from self.now.to }
     {
@@ -42,7 +42,7 @@ impl Front {
         &all[from..to]
     }
 
-    /// Consumes the first bytes.
+    /// Consumes the first `count` bytes, of which there are that many.
     pub(crate) fn advance(&mut self, count: usize)
         requires { count ≤ length (slice_range self.old.bytes.items self.old.from self.old.to) }
         ensures held { slice_range self.new.bytes.items self.new.from self.new.to
@@ -53,7 +53,7 @@ impl Front {
         self.from += count;
     }
 
-    /// Returns the last bytes before them, which were consumed.
+    /// Returns the last `count` consumed bytes, which are still in the buffer.
     #[inline(always)]
     pub(crate) fn passed(&self, count: usize) -> &[u8]
         requires { count ≤ self.now.from }
@@ -64,7 +64,7 @@ impl Front {
         &all[from..to]
     }
 
-    /// Replaces the contents by the result of one read call.
+    /// Replaces the contents by the result of one read call, which is returned.
     pub(crate) fn load<S: Source>(&mut self, source: &mut S) -> Next
         requires unbroken { (S.input source.old).faulted ≡ false }
         ensures { Loads result (S.input source.old) (S.input source.new) (slice_range self.new.bytes.items self.new.from self.new.to) }
@@ -89,7 +89,7 @@ pub struct Back {
 }
 
 impl Back {
-    /// Makes an empty buffer of `SIZE` bytes.
+    /// Makes an empty buffer of `SIZE` bytes. Err: the allocation failed.
     pub(crate) fn new(alloc: Global) -> Result<Back, AllocError>
         ensures { IfOk result (λ b. take b.len b.bytes.items ≡ []) }
     {
@@ -98,14 +98,14 @@ impl Back {
         Ok(Back { bytes, len: 0 })
     }
 
-    /// Returns how many more bytes fit.
+    /// Returns the number of bytes that still fit.
     pub(crate) fn room(&self) -> usize
         ensures { result + self.now.len ≡ 8192 }
     {
         SIZE - self.len
     }
 
-    /// Returns the bytes.
+    /// Returns the bytes that are kept back.
     pub(crate) fn bytes(&self) -> &[u8]
         ensures { result.now ≡ take self.now.len self.now.bytes.items }
     {

@@ -10,11 +10,12 @@ use Rattle.oa_table.specs.declared.event.Event.{Event}
 use Rattle.oa_table.specs.declared.event.Event.TheVariants.{Create, Release, Put, PutElement, Redim}
 use Rattle.oa_table.specs.declared.fault.TableFault.{TableFault}
 use Rattle.oa_table.specs.declared.fault.TableFault.TheVariants.{Array, Memory}
-use Rattle.oa_table.specs.Events.{released, released_if_live}
+use Rattle.oa_table.specs.promise.Events.{released, released_if_live}
 use Rattle.oa_table.specs.Memory.{MayWantMemory}
-use Rattle.oa_table.specs.Objects.{any_locked}
-use Rattle.oa_table.specs.Sizes.{largest_image, object_size, size_after, size_due, table_size}
-use Rattle.oa_table.specs.Tables.{ObjectValue, TableValue, object_at}
+use Rattle.oa_table.specs.promise.Objects.{any_locked}
+use Rattle.oa_table.specs.Sizes.{largest_image, size_after, size_due}
+use Rattle.oa_table.specs.promise.Sizes.{object_size, table_size}
+use Rattle.oa_table.specs.promise.Tables.{ObjectValue, TableValue, object_at}
 use Rattle.oa_table.proofs.Through.{told_by}
 
 -- by a release no image gets longer
@@ -22,7 +23,8 @@ release_less : (number : ℕ) (t : TableValue) → size_due table_size (released
 unfolding table_size
 release_less number t = by (object_at number t)
   where
-    at : (b : Bool) → size_due table_size (cond b (Err (Array arrays.IsLocked)) (Ok (record t { objects = remove_entry (is_at (nat_cmp number)) t.objects }))) t ≤ table_size t
+    at : (b : Bool) → size_due table_size (cond b (Err (Array arrays.IsLocked)) (Ok (record t { objects = remove_entry (is_at (nat_cmp number)) t.objects }))) t
+        ≤ table_size t
     at true = omega arith
     at false = omega (arith, sum_by-remove_entry object_size (is_at (nat_cmp number)) t.objects)
 
@@ -39,7 +41,8 @@ too_long (PutElement name index value) t kept long = long
 too_long (Redim name bound) t kept long = tt
 
 -- what holds of want of memory, told of another change
-pub starved_told : {E F U : Type 0} (g : E → F) (P : Type 0) (result : Result U (E × TableFault)) → IfErr result (λ e. e.1 ≡ Memory → P) → IfErr (told_by g result) (λ e. e.1 ≡ Memory → P)
+pub starved_told : {E F U : Type 0} (g : E → F) (P : Type 0) (result : Result U (E × TableFault)) → IfErr result (λ e. e.1 ≡ Memory → P)
+    → IfErr (told_by g result) (λ e. e.1 ≡ Memory → P)
 starved_told g P (Ok u) h = h
 starved_told g P (Err e) h = h
 

@@ -9,14 +9,14 @@ use Rattle.std.specs.Prelude.{if◌then◌else◌, ℤ}
 use Rattle.std.specs.declared.cmp.Ordering.{Ordering}
 use Rattle.std.specs.declared.cmp.Ordering.TheVariants.{Less, Equal, Greater}
 use Rattle.std.proofs.lemmas.Map.Made.{lookup-map_values}
-use Rattle.oa_model.specs.Limits.{greatest_object_number, max_cells}
+use Rattle.oa_model.specs.promise.Limits.{greatest_object_number, max_cells}
 use Rattle.oa_model.specs.declared.bound.Bound.{Bound}
-use Rattle.oa_array.specs.Arrays.{redimensioned, with_cell, with_first, with_locks}
-use Rattle.oa_array.specs.Boxes.{box_size}
-use Rattle.oa_array.specs.Within.{in_bounds}
+use Rattle.oa_array.specs.promise.Arrays.{redimensioned, with_cell, with_first, with_locks}
+use Rattle.oa_array.specs.promise.Boxes.{box_size}
+use Rattle.oa_array.specs.promise.Within.{in_bounds}
 use Rattle.oa_array.specs.declared.fault.ArrayFault.TheVariants as arrays
-use Rattle.oa_variant.specs.Scalars.{fits_type, zero_of}
-use Rattle.oa_variant.specs.Variants.{unlocked}
+use Rattle.oa_variant.specs.promise.Scalars.{fits_type, zero_of}
+use Rattle.oa_variant.specs.promise.Variants.{unlocked}
 use Rattle.oa_variant.specs.declared.scalar.Scalar.{Scalar}
 use Rattle.oa_variant.specs.declared.variant.Variant.{Variant}
 use Rattle.oa_variant.specs.declared.variant.Variant.TheVariants.{One, Array as AnArray}
@@ -24,13 +24,14 @@ use Rattle.oa_table.specs.declared.event.Event.{Event}
 use Rattle.oa_table.specs.declared.event.Event.TheVariants.{Create, Release, Put, PutElement, Redim}
 use Rattle.oa_table.specs.declared.fault.TableFault.{TableFault}
 use Rattle.oa_table.specs.declared.fault.TableFault.TheVariants.{Array, WrongNumber}
-use Rattle.oa_table.specs.Elements.{with_element_put, locks_in, locks_of, redimensioned_value}
-use Rattle.oa_table.specs.Events.{BringsNoLocks, applied, changed_if_live, on_object, released_if_live, with_object}
-use Rattle.oa_table.specs.Objects.{any_locked, changed_if_put, with_change, with_put, with_value}
-use Rattle.oa_table.specs.Outcomes.{mapped}
-use Rattle.oa_table.specs.Places.{PlaceValue, place_cmp}
-use Rattle.oa_table.specs.Tables.{ObjectValue, TableValue, cell_at, object_at, unlocked_cell, unlocked_entry, unlocked_object}
-use Rattle.oa_table.specs.Tables.{unlocked_table}
+use Rattle.oa_table.specs.promise.Elements.{with_element_put, locks_in, locks_of, redimensioned_value}
+use Rattle.oa_table.specs.Events.{BringsNoLocks}
+use Rattle.oa_table.specs.promise.Events.{applied, changed_if_live, on_object, released_if_live, with_object}
+use Rattle.oa_table.specs.promise.Objects.{any_locked, changed_if_put, with_change, with_put, with_value}
+use Rattle.oa_table.specs.promise.Outcomes.{mapped}
+use Rattle.oa_table.specs.promise.Places.{PlaceValue, place_cmp}
+use Rattle.oa_table.specs.promise.Tables.{ObjectValue, TableValue, cell_at, object_at, unlocked_cell, unlocked_entry}
+use Rattle.oa_table.specs.promise.Tables.{unlocked_object, unlocked_table}
 
 module _ {K X : Type 0} (g : X → X) where
   abbrev at_values : List (K × X) → List (K × X)
@@ -52,7 +53,8 @@ module _ {K X : Type 0} (g : X → X) where
   set_mapped test (e ∷ es) v = by (test e.0) (set_mapped test es v)
     where
       by : (b : Bool) → set_value test (at_values es) (g v) ≡ at_values (set_value test es v)
-          → cond b ((e.0, g v) ∷ at_values es) ((e.0, g e.1) ∷ set_value test (at_values es) (g v)) ≡ at_values (cond b ((e.0, v) ∷ es) (e ∷ set_value test es v))
+          → cond b ((e.0, g v) ∷ at_values es) ((e.0, g e.1) ∷ set_value test (at_values es) (g v)) ≡ at_values
+          (cond b ((e.0, v) ∷ es) (e ∷ set_value test es v))
       by true h = refl
       by false h = ap (λ tail. (e.0, g e.1) ∷ tail) h
 
@@ -73,8 +75,10 @@ element_follows : (index : List ℤ) (element : Scalar) (value : Variant) → Fo
 element_follows index element (One s) = tt
 element_follows index element (AnArray a) = by (in_bounds a.bounds index) (fits_type element a.elem)
   where
-    by : (b c : Bool) → IfOk (if b then (if c then Ok (AnArray (with_cell a index element)) else Err (Array arrays.TypeMismatch)) else Err (Array arrays.BadIndex))
-        (λ new. (if b then (if c then Ok (AnArray (with_cell (with_locks a 0) index element)) else Err (Array arrays.TypeMismatch)) else Err (Array arrays.BadIndex)) ≡ Ok (unlocked new))
+    by : (b c : Bool)
+        → IfOk (if b then (if c then Ok (AnArray (with_cell a index element)) else Err (Array arrays.TypeMismatch)) else Err (Array arrays.BadIndex))
+        (λ new. (if b then (if c then Ok (AnArray (with_cell (with_locks a 0) index element)) else Err (Array arrays.TypeMismatch)) else Err
+        (Array arrays.BadIndex)) ≡ Ok (unlocked new))
     by true true = refl
     by true false = tt
     by false c = tt
@@ -83,7 +87,9 @@ redim_follows : (bound : Bound) (value : Variant) → Follows unlocked (redimens
 redim_follows bound (One s) = tt
 redim_follows bound (AnArray a) = by (nat_lt 0 a.locks) (nat_lt max_cells (box_size (with_first bound a.bounds)))
   where
-    by : (b c : Bool) → IfOk (if b then Err (Array arrays.IsLocked) else if c then Err (Array arrays.InvalidArgument) else Ok (AnArray (redimensioned (zero_of a.elem) bound a)))
+    by : (b c : Bool)
+        → IfOk (if b then Err (Array arrays.IsLocked) else if c then Err (Array arrays.InvalidArgument) else Ok
+        (AnArray (redimensioned (zero_of a.elem) bound a)))
         (λ new. (if c then Err (Array arrays.InvalidArgument) else Ok (AnArray (redimensioned (zero_of a.elem) bound (with_locks a 0)))) ≡ Ok (unlocked new))
     by true c = tt
     by false true = tt
@@ -105,15 +111,19 @@ module _ (place : PlaceValue) (object : ObjectValue) where
   seen : cell_at place (map unlocked_cell object.cells) ≡ option_map unlocked (cell_at place object.cells)
   seen = lookup-map_values unlocked (is_at (place_cmp place)) object.cells
 
-  change_follows : (change : Variant → Result Variant TableFault) → ((value : Variant) → Follows unlocked change value) → Follows unlocked_object (with_change place change) object
+  change_follows : (change : Variant → Result Variant TableFault) → ((value : Variant) → Follows unlocked change value)
+      → Follows unlocked_object (with_change place change) object
   change_follows change each = rw seen (by (cell_at place object.cells))
     where
       on : (value : Variant) (due : Result Variant TableFault) → IfOk due (λ new. change (unlocked value) ≡ Ok (unlocked new))
-          → IfOk (mapped (with_value place object) due) (λ new. mapped (with_value place (unlocked_object object)) (change (unlocked value)) ≡ Ok (unlocked_object new))
+          → IfOk (mapped (with_value place object) due)
+          (λ new. mapped (with_value place (unlocked_object object)) (change (unlocked value)) ≡ Ok (unlocked_object new))
       on value (Ok new) h = rw h (ap of_cells (set_mapped unlocked (is_at (place_cmp place)) object.cells new))
       on value (Err fault) h = tt
 
-      by : (o : Option Variant) → IfOk (changed_if_put place change object o) (λ new. changed_if_put place change (unlocked_object object) (option_map unlocked o) ≡ Ok (unlocked_object new))
+      by : (o : Option Variant)
+          → IfOk (changed_if_put place change object o)
+          (λ new. changed_if_put place change (unlocked_object object) (option_map unlocked o) ≡ Ok (unlocked_object new))
       by None = tt
       by (Some value) = on value (change value) (each value)
 
@@ -121,7 +131,8 @@ module _ (place : PlaceValue) (object : ObjectValue) where
   put_follows value none = rw (seen, no_locks (cell_at place object.cells)) (by (locks_in (cell_at place object.cells) == 0))
     where
       cells_are : insert_entry place_cmp (map unlocked_cell object.cells) place value ≡ map unlocked_cell (insert_entry place_cmp object.cells place value)
-      cells_are = ap (λ v. insert_entry place_cmp (map unlocked_cell object.cells) place v) (sym (unlocked_stays value none)) ∙ insert_mapped unlocked place_cmp object.cells place value
+      cells_are = ap (λ v. insert_entry place_cmp (map unlocked_cell object.cells) place v) (sym (unlocked_stays value none))
+          ∙ insert_mapped unlocked place_cmp object.cells place value
 
       by : (b : Bool) → IfOk (if b then of_cells (insert_entry place_cmp object.cells place value) else Err (Array arrays.IsLocked))
           (λ new. of_cells (insert_entry place_cmp (map unlocked_cell object.cells) place value) ≡ Ok (unlocked_object new))
@@ -140,24 +151,36 @@ module _ (number : ℕ) (table : TableValue) where
   found : object_at number (unlocked_table table) ≡ option_map unlocked_object (object_at number table)
   found = lookup-map_values unlocked_object (is_at (nat_cmp number)) table.objects
 
-  object_follows : (change : ObjectValue → Result ObjectValue TableFault) → ((object : ObjectValue) → Follows unlocked_object change object) → Follows unlocked_table (on_object number change) table
+  object_follows : (change : ObjectValue → Result ObjectValue TableFault) → ((object : ObjectValue) → Follows unlocked_object change object)
+      → Follows unlocked_table (on_object number change) table
   object_follows change each = rw found (by (object_at number table))
     where
       on : (object : ObjectValue) (due : Result ObjectValue TableFault) → IfOk due (λ new. change (unlocked_object object) ≡ Ok (unlocked_object new))
-          → IfOk (mapped (with_object number table) due) (λ new. mapped (with_object number (unlocked_table table)) (change (unlocked_object object)) ≡ Ok (unlocked_table new))
+          → IfOk (mapped (with_object number table) due)
+          (λ new. mapped (with_object number (unlocked_table table)) (change (unlocked_object object)) ≡ Ok (unlocked_table new))
       on object (Ok new) h = rw h (ap of_objects (set_mapped unlocked_object (is_at (nat_cmp number)) table.objects new))
       on object (Err fault) h = tt
 
-      by : (o : Option ObjectValue) → IfOk (changed_if_live number change table o) (λ new. changed_if_live number change (unlocked_table table) (option_map unlocked_object o) ≡ Ok (unlocked_table new))
+      by : (o : Option ObjectValue)
+          → IfOk (changed_if_live number change table o)
+          (λ new. changed_if_live number change (unlocked_table table) (option_map unlocked_object o) ≡ Ok (unlocked_table new))
       by None = tt
       by (Some object) = on object (change object) (each object)
 
   create_follows : (class : List ℕ) → Follows unlocked_table (applied (Create number class)) table
   create_follows class = by ((number == table.next) && nat_le number greatest_object_number)
     where
-      by : (b : Bool) → IfOk (if b then Ok (record { next = number + 1; objects = insert_entry nat_cmp table.objects number (record { class = class; cells = [] }) }) else Err WrongNumber)
-          (λ new. (if b then Ok (record { next = number + 1; objects = insert_entry nat_cmp (map unlocked_entry table.objects) number (record { class = class; cells = [] }) }) else Err WrongNumber) ≡ Ok (unlocked_table new))
-      by true = ap (λ objects. Ok (record { next = number + 1; objects = objects })) (insert_mapped unlocked_object nat_cmp table.objects number (record { class = class; cells = [] }))
+      by : (b : Bool)
+          → IfOk (if b then Ok (record { next = number + 1; objects = insert_entry nat_cmp table.objects number (record { class = class; cells = [] }) }) else
+          Err WrongNumber)
+          (λ new.
+          (if b then Ok (record {
+            next = number + 1;
+            objects = insert_entry nat_cmp (map unlocked_entry table.objects) number
+                (record { class = class; cells = [] });
+          }) else Err WrongNumber) ≡ Ok (unlocked_table new))
+      by true = ap (λ objects. Ok (record { next = number + 1; objects = objects }))
+          (insert_mapped unlocked_object nat_cmp table.objects number (record { class = class; cells = [] }))
       by false = tt
 
   release_follows : Follows unlocked_table (applied (Release number)) table
@@ -168,7 +191,9 @@ module _ (number : ℕ) (table : TableValue) where
       on true = tt
       on false = ap of_objects (remove_mapped unlocked_object (is_at (nat_cmp number)) table.objects)
 
-      by : (o : Option ObjectValue) → IfOk (released_if_live number table o) (λ new. released_if_live number (unlocked_table table) (option_map unlocked_object o) ≡ Ok (unlocked_table new))
+      by : (o : Option ObjectValue)
+          → IfOk (released_if_live number table o)
+          (λ new. released_if_live number (unlocked_table table) (option_map unlocked_object o) ≡ Ok (unlocked_table new))
       by None = tt
       by (Some object) = rw (none_locked object.cells) (on (any_locked object.cells))
 
@@ -176,5 +201,7 @@ pub event_follows : (event : Event) (table : TableValue) → BringsNoLocks event
 event_follows (Create number class) table h = create_follows number table class
 event_follows (Release number) table h = release_follows number table
 event_follows (Put name value) table h = object_follows name.object table (with_put name.place value) (λ object. put_follows name.place object value h)
-event_follows (PutElement name index value) table h = object_follows name.object table (with_change name.place (with_element_put index value)) (λ object. change_follows name.place object (with_element_put index value) (element_follows index value))
-event_follows (Redim name bound) table h = object_follows name.object table (with_change name.place (redimensioned_value bound)) (λ object. change_follows name.place object (redimensioned_value bound) (redim_follows bound))
+event_follows (PutElement name index value) table h = object_follows name.object table (with_change name.place (with_element_put index value))
+    (λ object. change_follows name.place object (with_element_put index value) (element_follows index value))
+event_follows (Redim name bound) table h = object_follows name.object table (with_change name.place (redimensioned_value bound))
+    (λ object. change_follows name.place object (redimensioned_value bound) (redim_follows bound))

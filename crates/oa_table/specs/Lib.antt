@@ -1,12 +1,11 @@
 pub mod Places
 pub mod Tables
-pub mod Faults
 pub mod Outcomes
 pub mod Elements
-pub mod Objects
 pub mod Events
 pub mod Locks
 pub mod Parts
 pub mod Sizes
 pub mod Members
 pub mod Memory
+pub mod promise

@@ -3,7 +3,7 @@ use Rattle.std.specs.Prelude.{◌≡◌, ◌<◌, None, ⊤, ◌⊎◌}
 use Rattle.oa_table.specs.declared.event.Event.{Event}
 use Rattle.oa_table.specs.declared.event.Event.TheVariants.{Create, Release, Put, PutElement, Redim}
 use Rattle.oa_table.specs.Sizes.{largest_image, size_after}
-use Rattle.oa_table.specs.Tables.{TableValue, cell_in, object_at}
+use Rattle.oa_table.specs.promise.Tables.{TableValue, cell_in, object_at}
 
 -- Memory is allocated for an object, for a cell that was never put, and for an array with other bounds. No memory
 -- holds a table whose image is longer than the longest one; a release makes no image longer.

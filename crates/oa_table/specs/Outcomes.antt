@@ -1,4 +1,4 @@
--- The result of a call that may refuse a change, and the table after it. (This project's choice.)
+-- Definitions for contracts and proofs, beside promise/Outcomes.
 use Rattle.std.specs.Prelude.{◌≡◌, ℕ, Result, Ok, Err, IsOk}
 use Rattle.oa_table.specs.declared.fault.TableFault.{TableFault}
 use Rattle.oa_table.specs.declared.fault.TableFault.TheVariants.{Memory}
@@ -17,8 +17,3 @@ Does change due old new (Err (back, fault)) = (back ≡ change) × (new ≡ old)
 abbrev pub CountsLocks : {T : Type 0} → Result T TableFault → (T → ℕ) → T → T → Result ℕ TableFault → Type 0
 CountsLocks due count old new (Ok n) = (due ≡ Ok new) × (n ≡ count new)
 CountsLocks due count old new (Err fault) = (due ≡ Err fault) × (new ≡ old)
-
--- the result for a whole, given that for a part
-abbrev pub mapped : {A B : Type 0} → (A → B) → Result A TableFault → Result B TableFault
-mapped f (Ok x) = Ok (f x)
-mapped f (Err fault) = Err fault

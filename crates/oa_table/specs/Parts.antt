@@ -1,8 +1,8 @@
 -- A table that is made object by object. (This project's choice.)
 use Rattle.std.specs.Prelude.{◌≡◌, ◌<◌, ◌≤◌, ℕ, [], ◌∷◌, ◌++◌, All}
 use Rattle.std.specs.Map.{keys_of, values_of}
-use Rattle.oa_table.specs.Elements.{locks_of}
-use Rattle.oa_table.specs.Tables.{ObjectValue, TableValue}
+use Rattle.oa_table.specs.promise.Elements.{locks_of}
+use Rattle.oa_table.specs.promise.Tables.{ObjectValue, TableValue}
 
 -- the table with this next number, without objects
 abbrev pub table_with_next : ℕ → TableValue

@@ -1,23 +1,27 @@
-//! By how much a change makes an image shorter or longer.
+//! The difference that a change makes to the length of an image.
 ghost use Rattle.std.specs.Prelude.{◌≡◌, ◌≤◌, ◌+◌};
 ghost use Rattle.std.specs.List.{sum_by};
-ghost use Rattle.oa_array.specs.Arrays.{kept_by_position};
-ghost use Rattle.oa_model.specs.Limits.{max_cells};
-ghost use Rattle.oa_table.specs.Elements.{with_element_put, redimensioned_value};
-ghost use Rattle.oa_layout.specs.Lengths.{element_size, max_value_image, value_size};
+ghost use Rattle.oa_array.specs.promise.Arrays.{kept_by_position};
+ghost use Rattle.oa_model.specs.promise.Limits.{max_cells};
+ghost use Rattle.oa_table.specs.promise.Elements.{with_element_put, redimensioned_value};
+ghost use Rattle.oa_formats.specs.promise.Lengths.{element_size, value_size};
+ghost use Rattle.oa_formats.specs.Lengths.{max_value_image};
 ghost use Rattle.oa_table.specs.Sizes.{size_due};
-ghost use Rattle.oa_variant.specs.Scalars.{zero_of};
+ghost use Rattle.oa_variant.specs.promise.Scalars.{zero_of};
 ghost use Rattle.oa_variant.specs.declared.variant.Variant.TheVariants as variants;
 
 use oa_array::{Cell, SafeArray};
-use oa_layout::{element_len, elements_len};
+use oa_formats::{element_len, elements_len};
 use oa_model::Bound;
 use oa_variant::{Scalar, Variant};
 
-/// The bytes that a change removes from an image, and those that it adds. Both are 0 for a change that is refused.
+/// The bytes that a change removes from an image, and those that it adds. Both are 0 for a change
+/// that is refused.
 #[derive(Clone, Copy)]
 pub(crate) struct Difference {
+    /// The bytes that the change removes.
     pub gone: u64,
+    /// The bytes that the change adds.
     pub come: u64,
 }
 
@@ -29,8 +33,8 @@ pub(crate) fn no_difference() -> Difference
     Difference { gone: 0, come: 0 }
 }
 
-/// Returns the difference of setting an element of the array in a value.
-#[tactic(auto, unfolding(oa_layout::specs::Lengths::value_size))]
+/// Returns the difference of setting the element at an index list of the array in a value.
+#[tactic(auto, unfolding(oa_formats::specs::promise::Lengths::value_size))]
 pub(crate) fn element_difference(value: &Variant, index: &[i32], element: &Scalar) -> Difference
     ensures size { size_due value_size (with_element_put index.now element.now value.now) value.now + result.gone
         ≡ value_size value.now + result.come }
@@ -42,7 +46,8 @@ pub(crate) fn element_difference(value: &Variant, index: &[i32], element: &Scala
     }
 }
 
-#[tactic(auto, unfolding(oa_layout::specs::Lengths::value_size))]
+/// Returns the difference of setting an element of an array; none if the array refuses it.
+#[tactic(auto, unfolding(oa_formats::specs::promise::Lengths::value_size))]
 fn element_set(array: &SafeArray<Scalar>, index: &[i32], element: &Scalar) -> Difference
     ensures size { let value = variants.Array array.now in
         size_due value_size (with_element_put index.now element.now value) value + result.gone ≡ value_size value + result.come }
@@ -65,7 +70,7 @@ fn element_set(array: &SafeArray<Scalar>, index: &[i32], element: &Scalar) -> Di
 }
 
 /// Returns the difference of replacing the first bound of the array in a value.
-#[tactic(auto, unfolding(oa_layout::specs::Lengths::value_size))]
+#[tactic(auto, unfolding(oa_formats::specs::promise::Lengths::value_size))]
 pub(crate) fn redim_difference(value: &Variant, bound: Bound) -> Difference
     ensures size { size_due value_size (redimensioned_value bound value.now) value.now + result.gone ≡ value_size value.now + result.come }
     ensures small { result.come ≤ max_value_image }
@@ -76,7 +81,8 @@ pub(crate) fn redim_difference(value: &Variant, bound: Bound) -> Difference
     }
 }
 
-#[tactic(auto, unfolding(oa_layout::specs::Lengths::value_size))]
+/// Returns the difference of replacing the first bound of an array; none if the array refuses it.
+#[tactic(auto, unfolding(oa_formats::specs::promise::Lengths::value_size))]
 fn array_resized(array: &SafeArray<Scalar>, bound: Bound) -> Difference
     ensures size { let value = variants.Array array.now in
         size_due value_size (redimensioned_value bound value) value + result.gone ≡ value_size value + result.come }
@@ -93,8 +99,8 @@ fn array_resized(array: &SafeArray<Scalar>, bound: Bound) -> Difference
     }
 }
 
-/// Returns the difference of keeping the first `count` elements, or of adding zeros up to `count`. Reads the elements
-/// that are removed.
+/// Returns the difference of keeping the first `count` elements, or of adding zeros up to `count`.
+/// Reads the elements that are removed.
 fn elements_kept(array: &SafeArray<Scalar>, count: usize) -> Difference
     requires { count ≤ max_cells }
     ensures size { sum_by (element_size array.now.elem) (kept_by_position (zero_of array.now.elem) count array.now.cells) + result.gone

@@ -1,6 +1,6 @@
 //! Why a change of a table is refused.
 ghost use Rattle.std.specs.Prelude.{◌≡◌};
-ghost use Rattle.oa_table.specs.Faults.{table_code};
+ghost use Rattle.oa_table.specs.promise.Faults.{table_code};
 
 use oa_array::ArrayFault;
 use oa_model::HResult;

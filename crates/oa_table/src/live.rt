@@ -3,13 +3,14 @@ ghost use Rattle.std.specs.Prelude.{◌≡◌, ◌≤◌, ◌+◌, [], None, Ok,
 ghost use Rattle.std.specs.List.Sorted.{IsStrictlySortedBy};
 ghost use Rattle.std.specs.Map.{keys_of};
 ghost use Rattle.std.specs.Option.{option_map};
-ghost use Rattle.oa_layout.specs.Lengths.{value_size};
-ghost use Rattle.oa_table.specs.Elements.{with_element_put, locked_value, redimensioned_value, released_value};
-ghost use Rattle.oa_table.specs.Objects.{any_locked, locks_of_cell, with_change, with_put};
+ghost use Rattle.oa_formats.specs.promise.Lengths.{value_size};
+ghost use Rattle.oa_table.specs.promise.Elements.{with_element_put, locked_value, redimensioned_value, released_value};
+ghost use Rattle.oa_table.specs.promise.Objects.{any_locked, locks_of_cell, with_change, with_put};
 ghost use Rattle.oa_table.specs.Outcomes.{CountsLocks, Does};
-ghost use Rattle.oa_table.specs.Places.{place_cmp};
-ghost use Rattle.oa_table.specs.Sizes.{largest_cell, largest_image, largest_object, object_size, size_due};
-ghost use Rattle.oa_table.specs.Tables.{cell_at};
+ghost use Rattle.oa_table.specs.promise.Places.{place_cmp};
+ghost use Rattle.oa_table.specs.Sizes.{largest_cell, largest_image, largest_object, size_due};
+ghost use Rattle.oa_table.specs.promise.Sizes.{object_size};
+ghost use Rattle.oa_table.specs.promise.Tables.{cell_at};
 
 use crate::difference::{Difference, element_difference, no_difference, redim_difference};
 use crate::size::{place_size, value_size};
@@ -30,7 +31,7 @@ pub struct LiveObject {
 }
 
 impl Model for LiveObject {
-    ghost use Rattle.oa_table.specs.Tables.{ObjectValue};
+    ghost use Rattle.oa_table.specs.promise.Tables.{ObjectValue};
 
     ghost Value = { ObjectValue };
 
@@ -62,7 +63,8 @@ impl LiveObject {
         self.class
     }
 
-    /// Returns the last value that was put at a place; None if there was none.
+    /// Returns the last value that was put into the cell at a place of the object; None if none
+    /// was.
     pub fn get(&self, place: &Place) -> Option<&Variant>
         ensures { option_map (λ x. x.now) result ≡ cell_at place.now self.now.cells }
     {
@@ -85,7 +87,7 @@ impl LiveObject {
     }
 
     /// Returns the length in bytes of the object's image. Reads each cell of the object.
-    #[tactic(auto, unfolding(crate::specs::Sizes::object_size))]
+    #[tactic(auto, unfolding(crate::specs::promise::Sizes::object_size))]
     pub(crate) fn size(&self) -> u128
         ensures value { result ≡ object_size self.now }
         ensures small { result ≤ largest_object }
@@ -140,8 +142,8 @@ impl LiveObject {
         }
     }
 
-    /// Returns the difference in size of replacing the first bound of the array in a cell. Reads the elements that
-    /// are removed.
+    /// Returns the difference in size of replacing the first bound of the array in a cell. Reads
+    /// the elements that are removed.
     pub(crate) fn redim_difference(&self, place: &Place, bound: Bound) -> Difference
         ensures size { size_due object_size (with_change place.now (redimensioned_value bound) self.now) self.now + result.gone
             ≡ object_size self.now + result.come }
@@ -165,7 +167,8 @@ impl LiveObject {
         false
     }
 
-    /// Sets a cell, unless its array is locked. Returns the difference in size.
+    /// Sets a cell, and returns the difference in size. Err: the array in the cell is locked, or an
+    /// allocation failed; place and value are returned, and nothing changed.
     pub(crate) fn put(
         &mut self,
         place: Place,
@@ -183,9 +186,10 @@ impl LiveObject {
         replace(old, value).map_err(|(value, fault)| ((place, value), fault))
     }
 
-    /// Overwrites a cell that was put before, if the new value is within the given sizes and the array is not locked,
-    /// and returns the difference in size. Otherwise it returns the value, and nothing changes.
-    pub(crate) fn put_again(
+    /// Overwrites a cell that was put before, and returns the difference in size. Err: there is no
+    /// such cell, it is above the limits of `room`, or it is locked; the value is returned, and
+    /// nothing changes. Allocates nothing.
+    pub(crate) fn overwrite(
         &mut self,
         place: &Place,
         value: Variant,
@@ -208,7 +212,8 @@ impl LiveObject {
         replace_within(old, value, room)
     }
 
-    /// Sets a cell that was never put.
+    /// Sets a cell that was never put, and returns the difference in size. Err: an allocation
+    /// failed; place and value are returned.
     fn put_new(
         &mut self,
         place: Place,
@@ -227,7 +232,8 @@ impl LiveObject {
         }
     }
 
-    /// Sets an element of the array in a cell.
+    /// Sets the element at an index list of the array in a cell. Err: the cell has no array
+    /// (`NotArray`), or the array refuses the element, which is returned.
     pub(crate) fn put_element(
         &mut self,
         place: &Place,
@@ -243,7 +249,8 @@ impl LiveObject {
         put_element(value, index, element)
     }
 
-    /// Replaces the first bound of the array in a cell.
+    /// Replaces the first bound of the array in a cell. Err: the cell has no array (`NotArray`),
+    /// the array refuses the bound, or an allocation failed; the bound is returned.
     pub(crate) fn redim(
         &mut self,
         alloc: Global,
@@ -258,7 +265,8 @@ impl LiveObject {
         redim(alloc, value, bound)
     }
 
-    /// Adds a lock to the array in a cell, and returns the new count.
+    /// Adds a lock to the array in a cell, and returns the new number of locks. Err: the cell has
+    /// no array (`NotArray`), or the array refuses the lock.
     pub(crate) fn lock(&mut self, place: &Place) -> Result<u16, TableFault>
         ensures { CountsLocks (with_change place.now locked_value self.old) (locks_of_cell place.now) self.old self.new result }
     {
@@ -268,7 +276,8 @@ impl LiveObject {
         lock(value)
     }
 
-    /// Removes a lock from the array in a cell, and returns the new count.
+    /// Removes a lock from the array in a cell, and returns the new number of locks. Err: the cell
+    /// has no array (`NotArray`), or the array has no lock.
     pub(crate) fn unlock(&mut self, place: &Place) -> Result<u16, TableFault>
         ensures { CountsLocks (with_change place.now released_value self.old) (locks_of_cell place.now) self.old self.new result }
     {

@@ -4,14 +4,17 @@ ghost use Rattle.std.specs.List.Sorted.{IsStrictlySortedBy};
 ghost use Rattle.std.specs.Map.{keys_of};
 ghost use Rattle.std.specs.Option.{option_map};
 ghost use Rattle.std.specs.Ordering.{nat_cmp};
-ghost use Rattle.oa_layout.specs.Lengths.{value_size};
-ghost use Rattle.oa_table.specs.Events.{BringsNoLocks, applied};
-ghost use Rattle.oa_table.specs.Locks.{locked_in, locks_at, with_lock, without_lock};
+ghost use Rattle.oa_formats.specs.promise.Lengths.{value_size};
+ghost use Rattle.oa_table.specs.Events.{BringsNoLocks};
+ghost use Rattle.oa_table.specs.promise.Events.{applied};
+ghost use Rattle.oa_table.specs.Locks.{locked_in, locks_at};
+ghost use Rattle.oa_table.specs.promise.Locks.{with_lock, without_lock};
 ghost use Rattle.oa_table.specs.Memory.{MayWantMemory};
 ghost use Rattle.oa_table.specs.Outcomes.{CountsLocks, Does};
 ghost use Rattle.oa_table.specs.Parts.{table_with_next, with_last};
-ghost use Rattle.oa_table.specs.Sizes.{largest_cell, largest_image, size_after, table_size};
-ghost use Rattle.oa_table.specs.Tables.{cell_in, object_at};
+ghost use Rattle.oa_table.specs.Sizes.{largest_cell, largest_image, size_after};
+ghost use Rattle.oa_table.specs.promise.Sizes.{table_size};
+ghost use Rattle.oa_table.specs.promise.Tables.{cell_in, object_at};
 
 use crate::difference::Difference;
 use crate::value::Room;
@@ -33,14 +36,15 @@ pub(crate) struct Objects {
 }
 
 impl Model for Objects {
-    ghost use Rattle.oa_table.specs.Tables.{TableValue};
+    ghost use Rattle.oa_table.specs.promise.Tables.{TableValue};
 
     ghost Value = { TableValue };
 
     ghost view = { λ t. record { next = t.next; objects = t.objects } };
 }
 
-/// The place of an object among all, if none before it was released.
+/// Returns the place of the object with this number among all, counted from 0, if none before it
+/// was released.
 fn near(number: u32) -> usize {
     number.saturating_sub(1) as usize
 }
@@ -57,7 +61,8 @@ impl Objects {
         }
     }
 
-    /// Appends an object. Err: an allocation failed, and nothing changed.
+    /// Appends an object with this number, which is above all others. Err: an allocation failed,
+    /// and nothing changed.
     pub(crate) fn push(&mut self, number: u32, object: LiveObject) -> Result<(), AllocError>
         requires { All (λ other. other < number) (keys_of self.old.objects) }
         ensures pushed { OnOk result (self.new ≡ with_last number object self.old) }
@@ -67,14 +72,15 @@ impl Objects {
         Ok(())
     }
 
-    /// Returns the number of the next object; it is above the greatest number if the numbers are used up.
+    /// Returns the number of the next object; it is above the greatest number if the numbers are
+    /// used up.
     pub(crate) fn next(&self) -> u32
         ensures { result ≡ self.now.next }
     {
         self.next
     }
 
-    /// Returns how many objects are live.
+    /// Returns the number of live objects.
     pub(crate) fn len(&self) -> usize
         ensures { result ≡ length self.now.objects }
     {
@@ -96,14 +102,15 @@ impl Objects {
         let _count = self.objects.len();
     }
 
-    /// Returns an object, if it is live.
+    /// Returns the object with this number; None if it is not live.
     pub(crate) fn get(&self, number: u32) -> Option<&LiveObject>
         ensures { option_map (λ o. o.now) result ≡ object_at number self.now }
     {
         self.objects.get_near(&number, near(number))
     }
 
-    /// Returns whether an array of an object is locked. Reads the cells of that object.
+    /// Returns whether an array of the object with this number is locked. Reads the cells of that
+    /// object.
     pub(crate) fn locked(&self, number: u32) -> bool
         ensures { result ≡ locked_in (object_at number self.now) }
     {
@@ -113,8 +120,8 @@ impl Objects {
         }
     }
 
-    /// Applies an event. If it does not apply, or an allocation fails, the event is returned with the reason, and
-    /// nothing changes. A value that is put has no locks.
+    /// Applies an event. A value that is put has no locks. Err: the event does not apply, or an
+    /// allocation failed; it is returned with the reason, and nothing changed.
     pub(crate) fn apply(&mut self, event: Event) -> Result<(), (Event, TableFault)>
         requires { BringsNoLocks event }
         ensures does { Does event (applied event self.old) self.old self.new result }
@@ -132,8 +139,9 @@ impl Objects {
         }
     }
 
-    /// Adds a lock to the array in a cell, and returns the new count. Errors: NoObject; NotArray if the cell was
-    /// never put or has no array; otherwise what the array refuses. Allocates nothing.
+    /// Adds a lock to the array in a cell, and returns the new number of locks. Errors: `NoObject`;
+    /// `NotArray` if the cell was never put or has no array; otherwise what the array refuses.
+    /// Allocates nothing.
     pub(crate) fn lock(&mut self, name: &CellName) -> Result<u16, TableFault>
         ensures { CountsLocks (with_lock name.now self.old) (locks_at name.now) self.old self.new result }
     {
@@ -143,7 +151,9 @@ impl Objects {
         found.lock(&name.place)
     }
 
-    /// Removes a lock from the array in a cell, and returns the new count. Errors as of `lock`. Allocates nothing.
+    /// Removes a lock from the array in a cell, and returns the new number of locks. Errors:
+    /// `NoObject`; `NotArray` if the cell was never put or has no array; otherwise what the array
+    /// refuses. Allocates nothing.
     pub(crate) fn unlock(&mut self, name: &CellName) -> Result<u16, TableFault>
         ensures { CountsLocks (without_lock name.now self.old) (locks_at name.now) self.old self.new result }
     {
@@ -153,6 +163,8 @@ impl Objects {
         found.unlock(&name.place)
     }
 
+    /// Adds an object with the next number. Err: `WrongNumber` if `number` is not that or is too
+    /// large; `Memory`.
     fn create(&mut self, number: u32, class: Uuid) -> Result<(), (Event, TableFault)>
         ensures { let event = Event.Create number class in Does event (applied event self.old) self.old self.new result }
     {
@@ -171,6 +183,7 @@ impl Objects {
         }
     }
 
+    /// Removes an object. Err: an array of it is locked, or there is none (`NoObject`).
     fn release(&mut self, number: u32) -> Result<(), (Event, TableFault)>
         ensures does { let event = Event.Release number in Does event (applied event self.old) self.old self.new result }
         ensures starved { IfErr result (λ e. e.1 ≡ TableFault.Memory → MayWantMemory (Event.Release number) self.old) }
@@ -187,7 +200,8 @@ impl Objects {
         }
     }
 
-    /// Sets a cell. Returns the difference in size.
+    /// Sets a cell, and returns the difference in size. Err: `NoObject`, the array in the cell is
+    /// locked, or an allocation failed; the event is returned, and nothing changed.
     #[inline(always)]
     pub(crate) fn put(
         &mut self,
@@ -214,10 +228,11 @@ impl Objects {
         Ok(change)
     }
 
-    /// Overwrites a cell that was put before, if the new value is within the given sizes and the array is not locked,
-    /// and returns the difference in size. Otherwise it returns the value, and nothing changes.
+    /// Overwrites a cell that was put before, and returns the difference in size. Err: there is no
+    /// such cell, it is above the limits of `room`, or it is locked; the value is returned, and
+    /// nothing changes. Allocates nothing.
     #[inline(always)]
-    pub(crate) fn put_again(
+    pub(crate) fn overwrite(
         &mut self,
         name: &CellName,
         value: Variant,
@@ -237,9 +252,11 @@ impl Objects {
         let Some(found) = self.objects.get_mut_near(&name.object, near(name.object)) else {
             return Err(value);
         };
-        found.put_again(&name.place, value, room)
+        found.overwrite(&name.place, value, room)
     }
 
+    /// Sets an element of the array in a cell. Err: `NoObject`, `NotArray`, or what the array
+    /// refuses.
     fn put_element(
         &mut self,
         name: CellName,
@@ -261,6 +278,8 @@ impl Objects {
         Err((Event::PutElement { name, index, value }, fault))
     }
 
+    /// Replaces the first bound of the array in a cell. Err: `NoObject`, `NotArray`, `Memory`, or
+    /// what the array refuses.
     fn redim(&mut self, name: CellName, bound: Bound) -> Result<(), (Event, TableFault)>
         ensures { let event = Event.Redim name bound in Does event (applied event self.old) self.old self.new result }
     {

@@ -5,7 +5,8 @@ ghost use Rattle.std.specs.Cmp.Rules.{comparing};
 ghost use Rattle.std.specs.Ordering.{as_partial_cmp, eq_by_cmp, int_cmp, on, then_cmp};
 ghost use Rattle.std.proofs.Common.{rules};
 ghost use Rattle.oa_model.specs.Limits.{max_key_scalars};
-ghost use Rattle.oa_table.specs.Places.{IsPlace, key_cmp, place_cmp, places_total};
+ghost use Rattle.oa_table.specs.Places.{IsPlace, places_total};
+ghost use Rattle.oa_table.specs.promise.Places.{key_cmp, place_cmp};
 ghost use Rattle.oa_table.specs.Members.{dispid_in, key_in};
 
 use oa_variant::Scalar;
@@ -14,8 +15,8 @@ use std::marker::Model;
 use std::slice::from_ref;
 use uuid::Uuid;
 
-/// The place of a cell in its object: the member of an interface to which it belongs, and the arguments of the call.
-/// A key has at most 65,535 arguments.
+/// The place of a cell in its object: the member of an interface to which it belongs, and the
+/// arguments of the call. A key has at most 65,535 arguments.
 ///
 /// A place has 48 bytes with space for one argument; more are in a block of their own.
 #[derive(Drop)]
@@ -36,7 +37,8 @@ enum MemberKey {
 }
 
 impl Model for Place {
-    ghost use Rattle.oa_table.specs.Places.{IsPlace, PlaceValue};
+    ghost use Rattle.oa_table.specs.Places.{IsPlace};
+    ghost use Rattle.oa_table.specs.promise.Places.{PlaceValue};
     ghost use Rattle.oa_table.specs.Members.{dispid_in, key_in};
 
     ghost Value = { PlaceValue };
@@ -62,6 +64,7 @@ impl MemberKey {
         }
     }
 
+    /// Returns the DISPID of the member.
     fn dispid(&self) -> i32
         ensures { result ≡ dispid_in self.now }
     {
@@ -72,6 +75,7 @@ impl MemberKey {
         }
     }
 
+    /// Returns the arguments, in the order of the parameters.
     fn key(&self) -> &[Scalar]
         ensures { result.now ≡ key_in self.now }
     {

@@ -4,16 +4,20 @@ ghost use Rattle.std.specs.List.Sorted.{IsStrictlySortedBy};
 ghost use Rattle.std.specs.Map.{keys_of};
 ghost use Rattle.std.specs.Option.{option_map};
 ghost use Rattle.std.specs.Ordering.{nat_cmp};
-ghost use Rattle.oa_layout.specs.Lengths.{value_size};
-ghost use Rattle.oa_table.specs.Elements.{locks_of};
-ghost use Rattle.oa_table.specs.Events.{BringsNoLocks, applied};
-ghost use Rattle.oa_table.specs.Locks.{locked_in, locks_at, with_lock, without_lock};
+ghost use Rattle.oa_formats.specs.promise.Lengths.{value_size};
+ghost use Rattle.oa_table.specs.promise.Elements.{locks_of};
+ghost use Rattle.oa_table.specs.Events.{BringsNoLocks};
+ghost use Rattle.oa_table.specs.promise.Events.{applied};
+ghost use Rattle.oa_table.specs.Locks.{locked_in, locks_at};
+ghost use Rattle.oa_table.specs.promise.Locks.{with_lock, without_lock};
 ghost use Rattle.oa_table.specs.Memory.{MayWantMemory};
 ghost use Rattle.oa_table.specs.Outcomes.{CountsLocks, Does};
 ghost use Rattle.oa_table.specs.Parts.{CanBeLast, table_with_next, with_last};
 ghost use Rattle.oa_table.specs.Sizes as sizes;
-ghost use Rattle.oa_table.specs.Sizes.{largest_image, size_in, table_size};
-ghost use Rattle.oa_table.specs.Tables.{cell_in, class_in, first_table, object_at};
+ghost use Rattle.oa_table.specs.Sizes.{largest_image, size_in};
+ghost use Rattle.oa_table.specs.promise.Sizes.{table_size};
+ghost use Rattle.oa_table.specs.promise.Tables.{cell_in, class_in, object_at};
+ghost use Rattle.oa_table.specs.Tables.{first_table};
 
 use crate::difference::Difference;
 use crate::objects::Objects;
@@ -30,16 +34,16 @@ use uuid::Uuid;
 /// The greatest size of an image in bytes. A change that would exceed it fails as out of memory.
 pub const LARGEST_IMAGE: u64 = 0x7FFF_FFFF_FFFF_FFFF;
 
-/// The most bytes that a cell has in an image: its place, and its value, an array with the most bounds and the
-/// longest texts.
+/// The greatest number of bytes of a cell in an image: its place, and its value, an array with the
+/// most bounds and the longest texts.
 const LARGEST_CELL: u64 = 2
     * (4 + 8 * MAX_DIMENSIONS as u64 + (6 + MAX_TEXT_BYTES as u64) * MAX_CELLS as u64);
 
 /// A put into a table whose image has at most this many bytes leaves at most `LARGEST_IMAGE`.
 const ROOM_FOR_ANY_PUT: u64 = LARGEST_IMAGE - LARGEST_CELL;
 
-/// The table of objects: the next number, and the live objects by their numbers. A number is never used again. The
-/// length of its image is kept with it.
+/// The table of objects: the next number, and the live objects by their numbers. A number is never
+/// used again. The length of its image is kept with it.
 #[derive(Drop)]
 pub struct Table {
     objects: Objects,
@@ -48,7 +52,7 @@ pub struct Table {
 
 impl Model for Table {
     ghost use Rattle.oa_table.specs.Sizes.{HasKeptSize};
-    ghost use Rattle.oa_table.specs.Tables.{TableValue};
+    ghost use Rattle.oa_table.specs.promise.Tables.{TableValue};
 
     ghost Value = { TableValue };
 
@@ -76,8 +80,9 @@ impl Table {
         }
     }
 
-    /// Appends an object, with a number above all others and below the next one, and without locks. Err: an
-    /// allocation failed, or the image would have 2^63 bytes or more, and nothing changed.
+    /// Appends an object with its number, the GUID of its coclass and its cells, which are without
+    /// locks. The number is above all others and below the next one. Err: an allocation failed, or
+    /// the image would have 2^63 bytes or more, and nothing changed.
     pub fn push(
         &mut self,
         number: u32,
@@ -98,14 +103,15 @@ impl Table {
         Ok(())
     }
 
-    /// Returns the number of the next object; it is above the greatest number if the numbers are used up.
+    /// Returns the number of the next object; it is above the greatest number if the numbers are
+    /// used up.
     pub fn next(&self) -> u32
         ensures { result ≡ self.now.next }
     {
         self.objects.next()
     }
 
-    /// Returns how many objects are live.
+    /// Returns the number of live objects.
     pub fn len(&self) -> usize
         ensures { result ≡ length self.now.objects }
     {
@@ -126,7 +132,8 @@ impl Table {
         self.objects.numbers_rise();
     }
 
-    /// Returns the GUID of an object's coclass; None if there is no such object.
+    /// Returns the GUID of the coclass of the object with this number; None if there is no such
+    /// object.
     pub fn class_of(&self, number: u32) -> Option<Uuid>
         ensures { result ≡ class_in (object_at number self.now) }
     {
@@ -147,7 +154,8 @@ impl Table {
         self.objects.get(name.object)?.get(&name.place)
     }
 
-    /// Returns whether an array of an object is locked. Reads the cells of that object.
+    /// Returns whether an array of the object with this number is locked. Reads the cells of that
+    /// object.
     pub fn locked(&self, number: u32) -> bool
         ensures { result ≡ locked_in (object_at number self.now) }
     {
@@ -161,9 +169,10 @@ impl Table {
         self.size
     }
 
-    /// Returns the length in bytes of the image after an event; if the event does not apply, that of the image now.
-    /// Allocates nothing. It reads only the event's own cell: the elements of a value that is put or replaced, or
-    /// those that a shorter array loses; for a release, the cells of the object.
+    /// Returns the length in bytes of the image after an event; if the event does not apply, that
+    /// of the image now. Allocates nothing. It reads only the event's own cell: the elements of a
+    /// value that is put or replaced, or those that a shorter array loses. For a release it reads
+    /// the cells of the object.
     pub fn size_after(&self, event: &Event) -> u64
         ensures { result ≡ sizes.size_after event.now self.now }
     {
@@ -176,7 +185,7 @@ impl Table {
         }
     }
 
-    /// Returns the length of the image after the creation of an object.
+    /// Returns the length in bytes of the image after the creation of an object.
     fn size_with(&self, number: u32) -> u64
         ensures { (class : List ℕ) → result ≡ sizes.size_after (Event.Create number class) self.now }
     {
@@ -187,7 +196,7 @@ impl Table {
         self.size + 24 - self.size_of(number)
     }
 
-    /// Returns the length of the image after the release of an object.
+    /// Returns the length in bytes of the image after the release of an object.
     fn size_without(&self, number: u32) -> u64
         ensures { result ≡ sizes.size_after (Event.Release number) self.now }
     {
@@ -197,7 +206,7 @@ impl Table {
         self.size - self.size_of(number)
     }
 
-    /// Returns the length of the image after a put.
+    /// Returns the length in bytes of the image after a put.
     fn size_with_put(&self, name: &CellName, value: &Variant) -> u64
         ensures { result ≡ sizes.size_after (Event.Put name.now value.now) self.now }
     {
@@ -210,7 +219,7 @@ impl Table {
         }
     }
 
-    /// Returns the length of the image after an element of an array is set.
+    /// Returns the length in bytes of the image after an element of an array is set.
     fn size_with_element(&self, name: &CellName, index: &Indices, value: &Scalar) -> u64
         ensures { result ≡ sizes.size_after (Event.PutElement name.now index.now value.now) self.now }
     {
@@ -223,7 +232,7 @@ impl Table {
         }
     }
 
-    /// Returns the length of the image after an array gets another first bound.
+    /// Returns the length in bytes of the image after an array gets another first bound.
     fn size_with_bound(&self, name: &CellName, bound: Bound) -> u64
         ensures { result ≡ sizes.size_after (Event.Redim name.now bound) self.now }
     {
@@ -236,7 +245,7 @@ impl Table {
         }
     }
 
-    /// Returns the length of an object's image; 0 if there is no such object.
+    /// Returns the length in bytes of an object's image; 0 if there is no such object.
     fn size_of(&self, number: u32) -> u64
         ensures { result ≡ size_in (object_at number self.now) }
     {
@@ -246,9 +255,12 @@ impl Table {
         }
     }
 
-    /// Applies an event. If it does not apply, or an allocation fails, the event is returned with the reason, and
-    /// nothing changes. A value that is put has no locks. A `Create`, a `Put` into a cell that was never put, and a
-    /// `Redim` allocate. Each event but a `Release` fails as out of memory if the image would have 2^63 bytes or more.
+    /// Applies an event. A value that is put has no locks. A `Create`, a `Put` into a cell that was
+    /// never put, and a `Redim` allocate.
+    ///
+    /// Err: the event does not apply (`NoObject`, `WrongNumber`, `NotArray`, `Array`), or `Memory`.
+    /// The event is returned with the reason, and nothing changes. `Memory` is also the error of
+    /// each event but a `Release` if the image would have 2^63 bytes or more.
     #[inline(always)]
     pub fn apply(&mut self, event: Event) -> Result<(), (Event, TableFault)>
         requires { BringsNoLocks event }
@@ -261,14 +273,16 @@ impl Table {
         }
     }
 
-    /// Applies the event that creates an object: its number is the next one.
+    /// Creates an object of coclass `class`: applies the event with `number`, which must be the
+    /// next number. Errors: `WrongNumber`, `Memory`; the event is returned, and nothing changes.
     pub fn create(&mut self, number: u32, class: Uuid) -> Result<(), (Event, TableFault)>
         ensures { let event = Event.Create number class in Does event (applied event self.old) self.old self.new result }
     {
         self.apply(Event::Create { number, class })
     }
 
-    /// Applies the event that releases an object. It never fails as out of memory.
+    /// Releases the object with this number. Errors: `NoObject`; `Array(IsLocked)` if an array of
+    /// it is locked. The event is returned, and nothing changes. It never fails as out of memory.
     pub fn release(&mut self, number: u32) -> Result<(), (Event, TableFault)>
         ensures does { let event = Event.Release number in Does event (applied event self.old) self.old self.new result }
         ensures starved { IfErr result (λ e. e.1 ≡ TableFault.Memory → ⊥) }
@@ -276,7 +290,8 @@ impl Table {
         self.apply(Event::Release { number })
     }
 
-    /// Applies the event that sets a cell, with one look-up for the cell and for the difference in size.
+    /// Sets a cell, with one look-up for the cell and for the difference in size. Errors:
+    /// `NoObject`, `Array(IsLocked)`, `Memory`; the event is returned, and nothing changes.
     #[inline(always)]
     pub fn put(&mut self, name: CellName, value: Variant) -> Result<(), (Event, TableFault)>
         requires { locks_of value ≡ 0 }
@@ -284,14 +299,15 @@ impl Table {
         ensures starved { IfErr result (λ e. e.1 ≡ TableFault.Memory → MayWantMemory (Event.Put name value) self.old) }
     {
         // Most puts overwrite a value: these have no event to return.
-        let value = match self.put_again(&name, value, u64::MAX, LARGEST_IMAGE) {
+        let value = match self.overwrite(&name, value, u64::MAX, LARGEST_IMAGE) {
             Ok(()) => return Ok(()),
             Err(value) => value,
         };
         if self.size > ROOM_FOR_ANY_PUT {
             return self.change(Event::Put { name, value });
         }
-        // A match: `?` would move the whole result, which has space for a refused event, on each put.
+        // A match: `?` would move the whole result, which has space for a refused event, on each
+        // put.
         match self.objects.put(name, value) {
             Ok(change) => {
                 self.size = self.size + change.come - change.gone;
@@ -301,10 +317,10 @@ impl Table {
         }
     }
 
-    /// Overwrites a cell that was put before, if the new value's image has at most `longest` bytes and the table's
-    /// image then at most `most`. Otherwise (no such cell, too long, locked) it returns the value, and nothing
-    /// changes. Allocates nothing.
-    pub fn put_again(
+    /// Overwrites a cell that was put before. The new value's image must have at most `longest`
+    /// bytes, and the table's image then at most `most` bytes. Otherwise (no such cell, too long,
+    /// locked) it returns the value as the error, and nothing changes. Allocates nothing.
+    pub fn overwrite(
         &mut self,
         name: &CellName,
         value: Variant,
@@ -324,7 +340,7 @@ impl Table {
             size: self.size,
             most,
         };
-        match self.objects.put_again(name, value, room) {
+        match self.objects.overwrite(name, value, room) {
             Ok(Difference { gone, come }) => {
                 self.size = self.size + come - gone;
                 Ok(())
@@ -333,7 +349,8 @@ impl Table {
         }
     }
 
-    /// Applies the event that sets an element of the array in a cell.
+    /// Sets the element at an index list of the array in a cell. Errors: `NoObject`; `NotArray`;
+    /// `Array` with what the array refuses; `Memory`. The event is returned, and nothing changes.
     pub fn put_element(
         &mut self,
         name: CellName,
@@ -346,14 +363,15 @@ impl Table {
         self.apply(Event::PutElement { name, index, value })
     }
 
-    /// Applies the event that replaces the first bound of the array in a cell.
+    /// Replaces the first bound of the array in a cell. Errors: `NoObject`; `NotArray`; `Array`
+    /// with what the array refuses; `Memory`. The event is returned, and nothing changes.
     pub fn redim(&mut self, name: CellName, bound: Bound) -> Result<(), (Event, TableFault)>
         ensures { let event = Event.Redim name bound in Does event (applied event self.old) self.old self.new result }
     {
         self.apply(Event::Redim { name, bound })
     }
 
-    /// Applies an event, after computing the size that it leaves.
+    /// Applies an event, after computing the size that it leaves. Errors are those of `apply`.
     fn change(&mut self, event: Event) -> Result<(), (Event, TableFault)>
         requires { BringsNoLocks event }
         ensures does { Does event (applied event self.old) self.old self.new result }
@@ -372,15 +390,18 @@ impl Table {
         }
     }
 
-    /// Adds a lock to the array in a cell, and returns the new count. Errors: NoObject; NotArray if the cell was
-    /// never put or has no array; otherwise what the array refuses. Allocates nothing.
+    /// Adds a lock to the array in a cell, and returns the new number of locks. Errors: `NoObject`;
+    /// `NotArray` if the cell was never put or has no array; `Array` with what the array refuses.
+    /// Allocates nothing.
     pub fn lock(&mut self, name: &CellName) -> Result<u16, TableFault>
         ensures { CountsLocks (with_lock name.now self.old) (locks_at name.now) self.old self.new result }
     {
         self.objects.lock(name)
     }
 
-    /// Removes a lock from the array in a cell, and returns the new count. Errors as of `lock`. Allocates nothing.
+    /// Removes a lock from the array in a cell, and returns the new number of locks. Errors:
+    /// `NoObject`; `NotArray` if the cell was never put or has no array; `Array` with what the
+    /// array refuses. Allocates nothing.
     pub fn unlock(&mut self, name: &CellName) -> Result<u16, TableFault>
         ensures { CountsLocks (without_lock name.now self.old) (locks_at name.now) self.old self.new result }
     {

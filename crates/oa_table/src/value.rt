@@ -1,9 +1,11 @@
 //! Changes of the value in a cell.
 ghost use Rattle.std.specs.Prelude.{◌≡◌, ◌≤◌, ◌+◌, Ok, IfOk, IfErr, OnErr, OnOk};
 ghost use Rattle.oa_variant.specs.declared.variant.Variant.TheVariants as variants;
-ghost use Rattle.oa_layout.specs.Lengths.{max_value_image, value_size};
-ghost use Rattle.oa_table.specs.Elements.{with_element_put, locked_value, locks_of, of_array, redimensioned_value, released_value};
-ghost use Rattle.oa_table.specs.Elements.{replaced_value};
+ghost use Rattle.oa_formats.specs.Lengths.{max_value_image};
+ghost use Rattle.oa_formats.specs.promise.Lengths.{value_size};
+ghost use Rattle.oa_table.specs.promise.Elements.{with_element_put, locked_value, locks_of, redimensioned_value};
+ghost use Rattle.oa_table.specs.promise.Elements.{released_value};
+ghost use Rattle.oa_table.specs.Elements.{of_array, replaced_value};
 ghost use Rattle.oa_table.specs.Outcomes.{CountsLocks, Does};
 ghost use Rattle.oa_table.specs.Sizes.{largest_image};
 
@@ -15,7 +17,7 @@ use oa_model::Bound;
 use oa_variant::{Scalar, Variant};
 use std::alloc::Global;
 
-/// Returns how many locks the array of a value has; 0 for another value.
+/// Returns the number of locks of the array in a value; 0 for another value.
 pub(crate) fn locks_of(value: &Variant) -> u16
     ensures { result ≡ locks_of value.now }
 {
@@ -25,7 +27,8 @@ pub(crate) fn locks_of(value: &Variant) -> u16
     }
 }
 
-/// Replaces a value, unless its array is locked. Returns the difference in size.
+/// Replaces a value, and returns the difference in size. Err: its array is locked; the new value is
+/// returned.
 pub(crate) fn replace(
     old: &mut Variant,
     value: Variant,
@@ -45,17 +48,20 @@ pub(crate) fn replace(
     Ok(Difference { gone, come })
 }
 
-/// The limits of a replaced value: the greatest length of the new value's image, the present length of the table's
-/// image, and its greatest length afterwards.
+/// The limits of a replaced value, in bytes: the greatest length of the new value's image, the
+/// present length of the table's image, and its greatest length afterwards.
 #[derive(Clone, Copy)]
 pub(crate) struct Room {
+    /// The greatest length of the new value's image, in bytes.
     pub longest: u64,
+    /// The present length of the table's image, in bytes.
     pub size: u64,
+    /// The greatest length of the table's image afterwards, in bytes.
     pub most: u64,
 }
 
-/// Replaces a value, if the new one is within the limits and the array is not locked, and returns the difference in
-/// size. Otherwise it returns the new value.
+/// Replaces a value, and returns the difference in size. Err: the new value is not within the
+/// limits of `room`, or the array is locked; the new value is returned, and nothing changes.
 pub(crate) fn replace_within(
     old: &mut Variant,
     value: Variant,
@@ -81,7 +87,8 @@ pub(crate) fn replace_within(
     Ok(Difference { gone, come })
 }
 
-/// Sets an element of the array.
+/// Sets the element at an index list of the array in a value. Err: the value is no array, or the
+/// array refuses the element, which is returned.
 pub(crate) fn put_element(
     value: &mut Variant,
     index: &[i32],
@@ -96,6 +103,8 @@ pub(crate) fn put_element(
     }
 }
 
+/// Sets the element at an index list of an array. Err: the array refuses it; the element is
+/// returned.
 fn put_into(
     array: &mut SafeArray<Scalar>,
     index: &[i32],
@@ -113,7 +122,8 @@ fn put_into(
     }
 }
 
-/// Replaces the first bound of the array.
+/// Replaces the first bound of the array in a value. Err: the value is no array, the array refuses
+/// the bound, or an allocation failed; the bound is returned.
 pub(crate) fn redim(
     alloc: Global,
     value: &mut Variant,
@@ -139,7 +149,8 @@ fn of_array(fault: ArrayFault) -> TableFault
     }
 }
 
-/// Adds a lock to the array, and returns the new count.
+/// Adds a lock to the array in a value, and returns the new number of locks. Err: the value is no
+/// array, or the array refuses the lock.
 pub(crate) fn lock(value: &mut Variant) -> Result<u16, TableFault>
     ensures { CountsLocks (locked_value value.old) locks_of value.old value.new result }
 {
@@ -149,7 +160,8 @@ pub(crate) fn lock(value: &mut Variant) -> Result<u16, TableFault>
     }
 }
 
-/// Removes a lock from the array, and returns the new count.
+/// Removes a lock from the array in a value, and returns the new number of locks. Err: the value is
+/// no array, or the array has no lock.
 pub(crate) fn unlock(value: &mut Variant) -> Result<u16, TableFault>
     ensures { CountsLocks (released_value value.old) locks_of value.old value.new result }
 {

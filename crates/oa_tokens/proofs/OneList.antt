@@ -3,8 +3,8 @@ use Rattle.std.proofs.Common.{◌≡◌, ℕ, ◌+◌, List, ◌∷◌, drop, re
 use Rattle.oa_tokens.specs.declared.lexer.TokenKind.{TokenKind}
 use Rattle.oa_tokens.specs.declared.lexer.Token.{Token}
 use Rattle.oa_tokens.specs.declared.lexer.Piece.TheVariants.{Word, Gap, Broken}
-use Rattle.oa_tokens.specs.Tokens.{token, AreTokens}
-use Rattle.oa_tokens.specs.Tokens.AreTokens.{End, Apart, Next, Rest}
+use Rattle.oa_tokens.specs.promise.Tokens.{token, AreTokens}
+use Rattle.oa_tokens.specs.promise.Tokens.AreTokens.{End, Apart, Next, Rest}
 
 gap_is : (m n : ℕ) → Gap m ≡ Gap n → m ≡ n
 gap_is m n e = cc
@@ -27,7 +27,8 @@ one_list _ _ _ _ (End p) (Apart _ n _ us lt is h) = absurd (omega (arith, lt))
 one_list _ _ _ _ (End p) (Next _ n k _ us lt is h) = absurd (omega (arith, lt))
 one_list _ _ _ _ (End p) (Rest _ _ lt is) = absurd (omega (arith, lt))
 one_list _ _ _ _ (Apart p m bs ts lt is h) (End _) = absurd (omega (arith, lt))
-one_list _ _ _ _ (Apart p m bs ts lt is h) (Apart _ n _ us gt his k) = one_list (p + m) (drop m bs) ts us h (subst (λ (i : ℕ). AreTokens (p + i) (drop i bs) us) (gap_is n m (sym his ∙ is)) k)
+one_list _ _ _ _ (Apart p m bs ts lt is h) (Apart _ n _ us gt his k) =
+    one_list (p + m) (drop m bs) ts us h (subst (λ (i : ℕ). AreTokens (p + i) (drop i bs) us) (gap_is n m (sym his ∙ is)) k)
 one_list _ _ _ _ (Apart p m bs ts lt is h) (Next _ n j _ us gt his k) = absurd (gap_word m n j (sym is ∙ his))
 one_list _ _ _ _ (Apart p m bs ts lt is h) (Rest _ _ gt his) = absurd (gap_broken m (sym is ∙ his))
 one_list _ _ _ _ (Next p m j bs ts lt is h) (End _) = absurd (omega (arith, lt))

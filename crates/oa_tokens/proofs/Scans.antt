@@ -4,7 +4,7 @@ use Rattle.std.proofs.Common.{ap, ◌∙◌, arith}
 use Rattle.std.proofs.lemmas.List.{drop_more, drop_all}
 use Rattle.oa_tokens.specs.declared.scan.Class.{Class}
 use Rattle.oa_tokens.specs.declared.scan.Close.{Close}
-use Rattle.oa_tokens.specs.Bytes.{is_in, run, end_from, closes, marks, one_more}
+use Rattle.oa_tokens.specs.promise.Bytes.{is_in, run, end_from, closes, marks, incremented}
 
 pub run_goes_on : (class : Class) (bs : List ℕ) (n total : ℕ) → n < length bs → is_in class (get_or bs n 0) ≡ true
     → n + run (is_in class) (drop n bs) ≡ total → n + 1 + run (is_in class) (drop (n + 1) bs) ≡ total
@@ -32,7 +32,7 @@ abbrev pub plus : ℕ → Option ℕ → Option ℕ
 plus n None = None
 plus n (Some k) = Some (n + k)
 
-plus_one : (n : ℕ) (o : Option ℕ) → plus n (one_more o) ≡ plus (n + 1) o
+plus_one : (n : ℕ) (o : Option ℕ) → plus n (incremented o) ≡ plus (n + 1) o
 plus_one n None = refl
 plus_one n (Some k) = ap (λ (m : ℕ). Some m) (omega arith)
 
@@ -43,7 +43,7 @@ pub end_goes_on : (close : Close) (marked : Bool) (bs : List ℕ) (n : ℕ) (tot
 unfolding end_from
 end_goes_on close marked bs n total lt is so_far =
     let k : drop n bs ≡ get_or bs n 0 ∷ drop (n + 1) bs = drop_more bs n 0 lt in
-    let one : end_from close marked (drop n bs) ≡ one_more (end_from close (marks close marked (get_or bs n 0)) (drop (n + 1) bs)) = rw (k, is) refl in
+    let one : end_from close marked (drop n bs) ≡ incremented (end_from close (marks close marked (get_or bs n 0)) (drop (n + 1) bs)) = rw (k, is) refl in
     sym (ap (plus n) one ∙ plus_one n (end_from close (marks close marked (get_or bs n 0)) (drop (n + 1) bs))) ∙ so_far
 
 pub end_found : (close : Close) (marked : Bool) (bs : List ℕ) (n : ℕ) (total : Option ℕ) → n < length bs

@@ -12,9 +12,11 @@ use Rattle.oa_tokens.specs.declared.lexer.TokenKind.TheVariants as kinds
 use Rattle.oa_tokens.specs.declared.lexer.Token.{Token}
 use Rattle.oa_tokens.specs.declared.lexer.Piece.{Piece}
 use Rattle.oa_tokens.specs.declared.lexer.Piece.TheVariants.{Word, Gap}
-use Rattle.oa_tokens.specs.Bytes.{is_in, run, end_from, one_more, closes, marks, EndsInside, group, is_guid}
-use Rattle.oa_tokens.specs.Tokens.{closed, front, AreTokens, IsPiece, AreInOrder}
-use Rattle.oa_tokens.specs.Tokens.AreTokens.{End, Apart, Next, Rest}
+use Rattle.oa_tokens.specs.promise.Bytes.{is_in, run, end_from, incremented, closes, marks, group, is_guid}
+use Rattle.oa_tokens.specs.Bytes.{EndsInside}
+use Rattle.oa_tokens.specs.promise.Tokens.{closed, front, AreTokens}
+use Rattle.oa_tokens.specs.Tokens.{IsPiece, AreInOrder}
+use Rattle.oa_tokens.specs.promise.Tokens.AreTokens.{End, Apart, Next, Rest}
 
 -- ---- The first piece is inside the bytes.
 
@@ -30,9 +32,10 @@ run_within p (b ∷ bs) = by_test (p b) (run p bs) (length bs) (run_within p bs)
 end_within : (close : Close) (marked : Bool) (bs : List ℕ) → EndsInside (end_from close marked bs) (length bs)
 unfolding end_from
 end_within close marked [] = tt
-end_within close marked (b ∷ bs) = by_test (closes close marked b) (end_from close (marks close marked b) bs) (length bs) (end_within close (marks close marked b) bs)
+end_within close marked (b ∷ bs) = by_test (closes close marked b) (end_from close (marks close marked b) bs) (length bs)
+    (end_within close (marks close marked b) bs)
   where
-    by_test : (is : Bool) (o : Option ℕ) (m : ℕ) → EndsInside o m → EndsInside (if is then Some 1 else one_more o) (suc m)
+    by_test : (is : Bool) (o : Option ℕ) (m : ℕ) → EndsInside o m → EndsInside (if is then Some 1 else incremented o) (suc m)
     by_test true o m le = omega arith
     by_test false None m le = tt
     by_test false (Some n) m le = omega (arith, le)
@@ -80,14 +83,18 @@ is_piece bs lt =
     by_case (is_guid bs) _ _ (length bs) (λ is. (omega arith, guid_within bs is)) (λ _.
     by_case (is_in Letter (get_or bs 0 0)) _ _ (length bs) (λ _. (omega arith, run_past 1 (is_in Named) bs some)) (λ _.
     by_case (get_or bs 0 0 == 48 && get_or bs 1 0 == 120) _ _ (length bs)
-    (λ is. by_case (run (is_in Hexadecimal) (drop 2 bs) == 0) _ _ (length bs) (λ _. (omega arith, some)) (λ _. (omega arith, run_past 2 (is_in Hexadecimal) bs (second 120 bs refl (and_parts _ _ is).1)))) (λ _.
+    (λ is. by_case (run (is_in Hexadecimal) (drop 2 bs) == 0) _ _ (length bs) (λ _. (omega arith, some))
+    (λ _. (omega arith, run_past 2 (is_in Hexadecimal) bs (second 120 bs refl (and_parts _ _ is).1)))) (λ _.
     by_case (is_in Digit (get_or bs 0 0)) _ _ (length bs) (λ _. (omega arith, run_past 1 (is_in Digit) bs some)) (λ _.
-    by_case (get_or bs 0 0 == 34) _ _ (length bs) (λ _. text_within 1 (end_from Quote false (drop 1 bs)) bs (omega arith) some (end_within Quote false (drop 1 bs))) (λ _.
+    by_case (get_or bs 0 0 == 34) _ _ (length bs)
+    (λ _. text_within 1 (end_from Quote false (drop 1 bs)) bs (omega arith) some (end_within Quote false (drop 1 bs))) (λ _.
     by_case (is_in classes.Mark (get_or bs 0 0)) _ _ (length bs) (λ _. (omega arith, some)) (λ _.
     by_case (is_in Blank (get_or bs 0 0)) _ _ (length bs) (λ _. (omega arith, some)) (λ _.
-    by_case (get_or bs 0 0 == 47 && get_or bs 1 0 == 47) _ _ (length bs) (λ is. (omega arith, run_past 2 (is_in Line) bs (second 47 bs refl (and_parts _ _ is).1))) (λ _.
+    by_case (get_or bs 0 0 == 47 && get_or bs 1 0 == 47) _ _ (length bs)
+    (λ is. (omega arith, run_past 2 (is_in Line) bs (second 47 bs refl (and_parts _ _ is).1))) (λ _.
     by_case (get_or bs 0 0 == 47 && get_or bs 1 0 == 42) _ _ (length bs)
-    (λ is. gap_within 2 (end_from Comment false (drop 2 bs)) bs (omega arith) (second 42 bs refl (and_parts _ _ is).1) (end_within Comment false (drop 2 bs))) (λ _. tt)))))))))
+    (λ is. gap_within 2 (end_from Comment false (drop 2 bs)) bs (omega arith) (second 42 bs refl (and_parts _ _ is).1) (end_within Comment false (drop 2 bs)))
+    (λ _. tt)))))))))
 
 -- ---- all of them
 

@@ -6,8 +6,8 @@ use Rattle.oa_tokens.specs.declared.lexer.TokenKind.{TokenKind}
 use Rattle.oa_tokens.specs.declared.lexer.TokenKind.TheVariants.{Junk}
 use Rattle.oa_tokens.specs.declared.lexer.Token.{Token}
 use Rattle.oa_tokens.specs.declared.lexer.Piece.TheVariants.{Word, Gap, Broken}
-use Rattle.oa_tokens.specs.Tokens.{front, token, AreTokens}
-use Rattle.oa_tokens.specs.Tokens.AreTokens.{End, Apart, Next, Rest}
+use Rattle.oa_tokens.specs.promise.Tokens.{front, token, AreTokens}
+use Rattle.oa_tokens.specs.promise.Tokens.AreTokens.{End, Apart, Next, Rest}
 
 -- out are the tokens before a place
 abbrev pub SoFar : List ℕ → List Token → ℕ → Type 0
@@ -30,7 +30,8 @@ pub word_more : (bs : List ℕ) (out new : List Token) (at n : ℕ) (kind : Toke
     → Word kind n ≡ front (take (length bs - at) (drop at bs)) → new ≡ out ++ token kind at (at + n) ∷ [] → SoFar bs out at
     → SoFar bs new (at + n)
 word_more bs out new at n kind lt is grown so_far ts h =
-    let all = so_far (token kind at (at + n) ∷ ts) (Next at n kind (drop at bs) ts (some_left bs at lt) (sym (is ∙ ap front (sliced bs at))) (past bs at n ts h)) in
+    let all =
+    so_far (token kind at (at + n) ∷ ts) (Next at n kind (drop at bs) ts (some_left bs at lt) (sym (is ∙ ap front (sliced bs at))) (past bs at n ts h)) in
     subst (AreTokens 0 bs) (sym (append_assoc out (token kind at (at + n) ∷ []) ts) ∙ ap (λ (l : List Token). l ++ ts) (sym grown)) all
 
 pub junk_ends : (bs : List ℕ) (out new : List Token) (at : ℕ) → at < length bs → Broken ≡ front (take (length bs - at) (drop at bs))

@@ -1,7 +1,8 @@
 //! Theorems about the definitions alone.
 ghost use Rattle.std.specs.Prelude.{◌≡◌, ◌+◌, ℕ, List, length};
 ghost use Rattle.oa_tokens.specs.declared.lexer.Token.{Token};
-ghost use Rattle.oa_tokens.specs.Tokens.{AreTokens, AreInOrder};
+ghost use Rattle.oa_tokens.specs.promise.Tokens.{AreTokens};
+ghost use Rattle.oa_tokens.specs.Tokens.{AreInOrder};
 
 /// Bytes have at most one list of tokens.
 pub fn one_list()

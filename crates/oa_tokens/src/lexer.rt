@@ -1,6 +1,7 @@
 //! The lexer of library texts.
 ghost use Rattle.std.specs.Prelude.{◌≡◌, ◌-◌, ◌<◌, length, take, drop, IfOk};
-ghost use Rattle.oa_tokens.specs.Tokens.{front, IsPiece, AreTokens};
+ghost use Rattle.oa_tokens.specs.promise.Tokens.{front, AreTokens};
+ghost use Rattle.oa_tokens.specs.Tokens.{IsPiece};
 
 use crate::scan::{Class, Close, after, end_of, is_guid, is_in, run};
 use std::alloc::{AllocError, Global};
@@ -57,7 +58,7 @@ pub enum Piece {
 }
 
 /// Returns the first piece of the bytes: a token, a blank or a comment.
-#[tactic(auto, unfolding(crate::specs::Tokens::front))]
+#[tactic(auto, unfolding(crate::specs::promise::Tokens::front))]
 fn front(bytes: &[u8]) -> Piece
     requires { 0 < length bytes.now }
     ensures value { result ≡ front bytes.now }
@@ -102,8 +103,8 @@ fn front(bytes: &[u8]) -> Piece
     Piece::Broken
 }
 
-/// Returns the tokens of a text, in order. Bytes that form no token are one last token, up to the end of the text. Err: an allocation
-/// fails.
+/// Returns the tokens of a text, in order. Bytes that form no token are one last token, up to the
+/// end of the text. Err: an allocation fails.
 pub fn tokens(alloc: Global, text: &str) -> Result<Vec<Token>, AllocError>
     ensures { IfOk result (λ found. AreTokens 0 text.now found.items) }
 {

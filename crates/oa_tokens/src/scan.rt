@@ -1,6 +1,7 @@
 //! Classes of bytes, and the length of runs of them.
 ghost use Rattle.std.specs.Prelude.{◌≡◌, ◌≤◌, ◌<◌, length, drop, IsTrue, false};
-ghost use Rattle.oa_tokens.specs.Bytes.{is_in, run, end_from, is_guid, group, EndsInside, closes, marks};
+ghost use Rattle.oa_tokens.specs.promise.Bytes.{is_in, run, end_from, is_guid, group, closes, marks};
+ghost use Rattle.oa_tokens.specs.Bytes.{EndsInside};
 
 /// A class of bytes.
 #[derive(Clone, Copy)]
@@ -31,7 +32,7 @@ pub enum Close {
 }
 
 /// Returns whether a byte is in a class.
-#[tactic(auto, unfolding(crate::specs::Bytes::is_in))]
+#[tactic(auto, unfolding(crate::specs::promise::Bytes::is_in))]
 pub(crate) fn is_in(class: Class, byte: u8) -> bool
     ensures { result ≡ is_in class byte }
 {
@@ -49,7 +50,8 @@ pub(crate) fn is_in(class: Class, byte: u8) -> bool
     }
 }
 
-/// Returns whether a byte ends the string or comment; `marked` describes the byte before it, as `marks` does.
+/// Returns whether a byte ends the string or comment; `marked` describes the byte before it, as
+/// `marks` does.
 fn closes(close: Close, marked: bool, byte: u8) -> bool
     ensures { result ≡ closes close marked byte }
 {
@@ -69,7 +71,7 @@ fn marks(close: Close, marked: bool, byte: u8) -> bool
     }
 }
 
-/// Returns the number of bytes of a class at the front.
+/// Returns the number of bytes of a class at the beginning.
 #[tactic(auto, using(crate::proofs::Scans::run_goes_on, crate::proofs::Scans::run_stops, crate::proofs::Scans::run_ends))]
 pub(crate) fn run(class: Class, bytes: &[u8]) -> usize
     ensures value { result ≡ run (is_in class) bytes.now }
@@ -82,7 +84,8 @@ pub(crate) fn run(class: Class, bytes: &[u8]) -> usize
     n
 }
 
-/// Returns the number of bytes up to the end of a string or comment, including those that end it. None if it does not end.
+/// Returns the number of bytes up to the end of a string or comment, including those that end it.
+/// None if it does not end.
 #[tactic(auto, using(crate::proofs::Scans::end_goes_on, crate::proofs::Scans::end_found, crate::proofs::Scans::end_none))]
 pub(crate) fn end_of(close: Close, bytes: &[u8]) -> Option<usize>
     ensures value { result ≡ end_from close false bytes.now }
@@ -112,16 +115,16 @@ pub(crate) fn after(bytes: &[u8], n: usize) -> &[u8]
     }
 }
 
-/// Returns whether exactly `n` hexadecimal digits and a hyphen are at the front.
-#[tactic(auto, unfolding(crate::specs::Bytes::group))]
+/// Returns whether these bytes begin with exactly `n` hexadecimal digits and a hyphen.
+#[tactic(auto, unfolding(crate::specs::promise::Bytes::group))]
 fn group(n: usize, bytes: &[u8]) -> bool
     ensures { result ≡ group n bytes.now }
 {
     run(Class::Hexadecimal, bytes) == n && n < bytes.len() && bytes[n] == b'-'
 }
 
-/// Returns whether the form 8-4-4-4-12 of a GUID is at the front.
-#[tactic(auto, unfolding(crate::specs::Bytes::is_guid))]
+/// Returns whether these bytes begin with the form 8-4-4-4-12 of a GUID.
+#[tactic(auto, unfolding(crate::specs::promise::Bytes::is_guid))]
 pub(crate) fn is_guid(bytes: &[u8]) -> bool
     ensures long { IsTrue result → 36 ≤ length bytes.now }
     ensures value { result ≡ is_guid bytes.now }

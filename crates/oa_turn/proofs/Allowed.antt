@@ -4,37 +4,37 @@ use Rattle.std.proofs.Common.{◌∙◌, [], arith}
 use Rattle.std.specs.Prelude.{nat_lt, if◌then◌else◌}
 use Rattle.std.proofs.lemmas.Bool.{le-ltb, ltb-false}
 use Rattle.std.specs.Result.{IsErrAnd, MatchResult}
-use Rattle.oa_image.specs.Tables.{reserved_bytes}
-use Rattle.oa_model.specs.Limits.{max_event_bytes}
-use Rattle.oa_image.specs.Events.{event_image}
-use Rattle.oa_image.specs.Sizes.{event_size}
-use Rattle.oa_image.specs.Tables.{is_numbered, objects, table as a_table, table_image}
+use Rattle.oa_image.specs.promise.Tables.{reserved_bytes, is_numbered, objects, table as a_table, table_image}
+use Rattle.oa_model.specs.promise.Limits.{max_event_bytes}
+use Rattle.oa_image.specs.promise.Events.{event_image}
+use Rattle.oa_image.specs.promise.Sizes.{event_size}
 use Rattle.oa_image.proofs.Numbered.{numbers_stay, unlocked_numbers}
 use Rattle.oa_image.proofs.Sized.{event_sized, table_sized}
 use Rattle.oa_image.proofs.TablesWithImages.{same_table}
-use Rattle.oa_layout.specs.Formats.{only, made_where, counted, coded, next_by, times, raw}
-use Rattle.oa_layout.specs.Lengths.{value_size}
-use Rattle.oa_layout.specs.Numbers.{u32}
+use Rattle.oa_formats.specs.promise.Formats.{only, made_where, counted, coded, next_by, times, raw}
+use Rattle.oa_formats.specs.promise.Lengths.{value_size}
+use Rattle.oa_formats.specs.promise.Numbers.{u32}
 use Rattle.oa_variant.specs.declared.variant.Variant.{Variant}
 use Rattle.oa_turn.proofs.Relocked.{lock_stays, unlock_stays}
 use Rattle.oa_model.specs.declared.hresult.HResult.{HResult}
-use Rattle.oa_model.specs.Codes.{e_invalidarg, e_outofmemory, stg_e_mediumfull}
+use Rattle.oa_model.specs.promise.Codes.{e_invalidarg, e_outofmemory, stg_e_mediumfull}
 use Rattle.oa_table.specs.declared.event.Event.{Event}
 use Rattle.oa_table.specs.declared.event.Event.TheVariants.{Put}
 use Rattle.oa_table.specs.declared.name.CellName.{CellName}
 use Rattle.oa_table.specs.declared.fault.TableFault.{TableFault}
 use Rattle.oa_table.specs.declared.fault.TableFault.TheVariants.{Memory, NoObject, WrongNumber, NotArray, Array}
-use Rattle.oa_table.specs.Events.{applied}
-use Rattle.oa_table.specs.Faults.{table_code}
+use Rattle.oa_table.specs.promise.Events.{applied}
+use Rattle.oa_table.specs.promise.Faults.{table_code}
 use Rattle.oa_table.specs.Outcomes.{Because}
-use Rattle.oa_table.specs.Sizes.{place_size, table_size}
-use Rattle.oa_table.specs.Tables.{TableValue, first_table, unlocked_table}
+use Rattle.oa_table.specs.promise.Sizes.{place_size, table_size}
+use Rattle.oa_table.specs.promise.Tables.{TableValue, unlocked_table}
+use Rattle.oa_table.specs.Tables.{first_table}
 use Rattle.oa_decision.specs.declared.decision.LockChange.{LockChange}
 use Rattle.oa_decision.specs.declared.decision.LockChange.TheVariants.{Lock, Unlock}
 use Rattle.oa_turn.specs.Changes.{ChangesTable, MakesTable}
-use Rattle.oa_turn.specs.Steps.{relocked}
+use Rattle.oa_turn.specs.promise.Steps.{relocked}
 use Rattle.oa_turn.specs.Limits.{IsSoundTable, least_bank}
-use Rattle.oa_decision.specs.Limits.{allowed, limited, within_limits}
+use Rattle.oa_decision.specs.promise.Limits.{allowed, limited, within_limits}
 
 -- a table that is allowed
 pub record IsWithin (bank : ℕ) (event : Event) (made new : TableValue) : Type 0 where
@@ -54,7 +54,8 @@ within bank event made new =
     by false a false b is =
         let same : made ≡ new = cc in
         let small : length (event_image event) ≤ max_event_bytes = omega (arith, event_sized event, ltb-false max_event_bytes (event_size event) a) in
-        let fits : length (table_image made) ≤ (bank - reserved_bytes) = omega (arith, table_sized made, ltb-false (bank - reserved_bytes) (table_size made) b) in
+        let fits : length (table_image made) ≤ (bank - reserved_bytes) =
+        omega (arith, table_sized made, ltb-false (bank - reserved_bytes) (table_size made) b) in
         record {
           same = same;
           event_small = small;
@@ -100,14 +101,20 @@ is_allowed bank event old new ok at = by (allowed bank event old) refl ok
 below : (bank n m : ℕ) → n + reserved_bytes ≤ bank → m ≤ bank - reserved_bytes → m + reserved_bytes ≤ bank
 below bank n m was is = omega (arith, was, is)
 
-pub stays_sound : (bank : ℕ) (event : Event) (old new : TableValue) → IsSoundTable bank old → IsOk (allowed bank event old) → applied event old ≡ Ok new → IsSoundTable bank new
-stays_sound bank event old new sound ok at = record { numbered = numbers_stay event old new sound.numbered at; small = below bank (length (table_image old)) (length (table_image new)) sound.small (is_allowed bank event old new ok at).table_small }
+pub stays_sound : (bank : ℕ) (event : Event) (old new : TableValue) → IsSoundTable bank old → IsOk (allowed bank event old) → applied event old ≡ Ok new
+    → IsSoundTable bank new
+stays_sound bank event old new sound ok at = record {
+  numbered = numbers_stay event old new sound.numbered at;
+  small = below bank (length (table_image old))
+      (length (table_image new)) sound.small (is_allowed bank event old new ok at).table_small;
+}
 
 pub allowed_sound : (bank : ℕ) (event : Event) (old new : TableValue) → IsSoundTable bank old → allowed bank event old ≡ Ok new → IsSoundTable bank new
 allowed_sound bank event old new sound is = stays_sound bank event old new sound (rw is refl) (is_made bank event old new is).applies
 
 -- an event that is within the limits is allowed where it applies
-pub within_allowed : (bank : ℕ) (event : Event) (old new : TableValue) → applied event old ≡ Ok new → within_limits bank event new ≡ Ok new → allowed bank event old ≡ Ok new
+pub within_allowed : (bank : ℕ) (event : Event) (old new : TableValue) → applied event old ≡ Ok new → within_limits bank event new ≡ Ok new
+    → allowed bank event old ≡ Ok new
 within_allowed bank event old new at is = rw at is
 
 -- a put into a cell without a key, of a value that has so few bytes, is within them where the table has so few
@@ -117,7 +124,8 @@ unfolding event_size place_size
 again_allowed bank name value old new keyless at short small =
     let place : place_size name.place ≡ 22 = rw keyless refl in
     let event : event_size (Put name value) ≤ max_event_bytes = omega (arith, short, place) in
-    within_allowed bank (Put name value) old new at (rw (le-ltb max_event_bytes (event_size (Put name value)) event, le-ltb (bank - reserved_bytes) (table_size new) small) refl)
+    within_allowed bank (Put name value) old new at
+    (rw (le-ltb max_event_bytes (event_size (Put name value)) event, le-ltb (bank - reserved_bytes) (table_size new) small) refl)
 
 -- and is not where either has more
 pub again_within : (bank : ℕ) (name : CellName) (value : Variant) (made : TableValue) → name.place.key ≡ [] → IsOk (within_limits bank (Put name value) made)
@@ -130,13 +138,16 @@ again_within bank name value made keyless ok =
     place = rw keyless refl
 
     by : (long : Bool) → nat_lt max_event_bytes (event_size (Put name value)) ≡ long → (full : Bool) → nat_lt (bank - reserved_bytes) (table_size made) ≡ full
-        → IsOk (if long then Err e_invalidarg else if full then Err stg_e_mediumfull else Ok made) → (value_size value ≤ 4194277) × (table_size made ≤ bank - reserved_bytes)
+        → IsOk (if long then Err e_invalidarg else if full then Err stg_e_mediumfull else Ok made) → (value_size value ≤ 4194277)
+        × (table_size made ≤ bank - reserved_bytes)
     by true a full b ok = absurd (true≢false (sym ok))
     by false a true b ok = absurd (true≢false (sym ok))
-    by false a false b ok = (omega (arith, place, ltb-false max_event_bytes (event_size (Put name value)) a), ltb-false (bank - reserved_bytes) (table_size made) b)
+    by false a false b ok =
+        (omega (arith, place, ltb-false max_event_bytes (event_size (Put name value)) a), ltb-false (bank - reserved_bytes) (table_size made) b)
 
 -- a change that is allowed, where each refusal was made the code of want of memory
-pub changed : {E : Type 0} (bank : ℕ) (event : Event) (old new : TableValue) (P : E → HResult → Type 0) (from : Result (Unit {0}) E) (to : Result (Unit {0}) HResult)
+pub changed : {E : Type 0} (bank : ℕ) (event : Event) (old new : TableValue) (P : E → HResult → Type 0) (from : Result (Unit {0}) E)
+    (to : Result (Unit {0}) HResult)
     → IsOk (allowed bank event old) → MakesTable event old new from → MatchResult from (λ u. to ≡ Ok u) (λ e. IsErrAnd to (P e))
     → ((e : E) (code : HResult) → P e code → code ≡ e_outofmemory) → ChangesTable bank event old new to
 changed bank event old new P (Ok u) to ok made told coded = rw told (is_allowed bank event old new ok made).is
@@ -144,7 +155,8 @@ changed bank event old new P (Err e) (Ok u) ok made told coded = absurd told
 changed bank event old new P (Err e) (Err code) ok made told coded = (made, inr (coded e code told, ok))
 
 -- why the table does not apply an event that is within the limits
-pub why_refused : (bank : ℕ) (event : Event) (old : TableValue) (fault : TableFault) → ((new : TableValue) → applied event old ≡ Ok new → within_limits bank event new ≡ Ok new) → Because (applied event old) fault
+pub why_refused : (bank : ℕ) (event : Event) (old : TableValue) (fault : TableFault)
+    → ((new : TableValue) → applied event old ≡ Ok new → within_limits bank event new ≡ Ok new) → Because (applied event old) fault
     → (allowed bank event old ≡ Err (table_code fault)) ⊎ ((table_code fault ≡ e_outofmemory) × IsOk (allowed bank event old))
 why_refused bank event old Memory within ok = inr (refl, by (applied event old) refl ok)
   where

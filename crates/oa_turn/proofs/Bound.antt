@@ -11,29 +11,30 @@ use Rattle.oa_model.specs.declared.var_type.ValueType.TheVariants as kinds
 use Rattle.oa_idl.specs.declared.parts.Literal.{Literal}
 use Rattle.oa_idl.specs.declared.parts.Literal.TheVariants as literals
 use Rattle.oa_idl.specs.declared.parts.Parameter.{Parameter}
-use Rattle.oa_variant.specs.Scalars.{fits_type}
-use Rattle.oa_variant.specs.Variants.{fits_declared}
+use Rattle.oa_variant.specs.promise.Scalars.{fits_type}
+use Rattle.oa_variant.specs.promise.Variants.{fits_declared}
 use Rattle.oa_variant.specs.declared.scalar.Scalar.{Scalar}
 use Rattle.oa_variant.specs.declared.scalar.Scalar.TheVariants as scalars
 use Rattle.oa_variant.specs.declared.variant.Variant.{Variant}
 use Rattle.oa_variant.specs.declared.variant.Variant.TheVariants.{One, Array}
-use Rattle.oa_coerce.specs.Answers.{coerced, coerced_scalar}
+use Rattle.oa_coerce.specs.promise.Answers.{coerced, coerced_scalar}
 use Rattle.oa_coerce.specs.declared.fault.CoerceFault.{CoerceFault}
 use Rattle.oa_coerce.proofs.Computed.{answer_scalar, answer_value}
 use Rattle.oa_coerce.proofs.Properties.{answer_fits, scalar_fits}
 use Rattle.oa_typelib.specs.Bindable.{AreScalars, IsBindable, IsOne}
-use Rattle.oa_checks.specs.Defaults.{default_of, number_as, text_as, truth_as, wide}
-use Rattle.oa_typelib.specs.MemberValues.{MemberValue}
+use Rattle.oa_sema.specs.promise.Defaults.{default_of, number_as, text_as, truth_as, wide}
+use Rattle.oa_typelib.specs.promise.MemberValues.{MemberValue}
 use Rattle.oa_typelib.specs.declared.access.Kind.{Kind}
 use Rattle.oa_typelib.specs.declared.access.Kind.TheVariants.{Get, Put}
 use Rattle.oa_bind.specs.declared.fault.BindFault.{BindFault}
-use Rattle.oa_bind.specs.Bindings.{bound_call, bound_to, given_new_value, new_value_of, parameter_value, scalar_type, told_of_argument, value_by_argument, value_of_parameter}
-use Rattle.oa_bind.specs.Bindings.{without_default}
-use Rattle.oa_bind.specs.Calls.{BoundCallValue}
-use Rattle.oa_bind.specs.Given.{Given, argument_for, at, argument_index, new_value_id}
-use Rattle.oa_bind.specs.Names.{complete, well_named}
-use Rattle.oa_bind.specs.Refusals.{◌>>=◌, each_at}
-use Rattle.oa_fits.specs.Fits.{key_fits}
+use Rattle.oa_bind.specs.promise.Bindings.{bound_call, bound_to, given_new_value, new_value_of, parameter_value}
+use Rattle.oa_bind.specs.promise.Bindings.{scalar_type, told_of_argument, value_by_argument, value_of_parameter}
+use Rattle.oa_bind.specs.promise.Bindings.{without_default}
+use Rattle.oa_bind.specs.promise.Calls.{BoundCallValue}
+use Rattle.oa_bind.specs.promise.Given.{Given, argument_for, given_argument, argument_index, new_value_id}
+use Rattle.oa_bind.specs.promise.Names.{complete, well_named}
+use Rattle.oa_bind.specs.promise.Refusals.{◌>>=◌, each_at}
+use Rattle.oa_compat.specs.promise.Fits.{key_fits}
 use Rattle.oa_decision.proofs.Keys.{if_both}
 
 -- ---- defaults
@@ -47,68 +48,26 @@ mapped t f (Some x) each = each x
 
 number_fits : (t : VarType) (z : ℤ) → IfSome (number_as t z) (FitsIn t)
 unfolding number_as
-number_fits types.I1 z = mapped types.I1 scalars.I1 _ (λ x. refl)
-number_fits types.I2 z = mapped types.I2 scalars.I2 _ (λ x. refl)
-number_fits types.I4 z = mapped types.I4 scalars.I4 _ (λ x. refl)
-number_fits types.I8 z = mapped types.I8 scalars.I8 _ (λ x. refl)
-number_fits types.Int z = mapped types.Int scalars.Int _ (λ x. refl)
-number_fits types.Ui1 z = mapped types.Ui1 scalars.Ui1 _ (λ x. refl)
-number_fits types.Ui2 z = mapped types.Ui2 scalars.Ui2 _ (λ x. refl)
-number_fits types.Ui4 z = mapped types.Ui4 scalars.Ui4 _ (λ x. refl)
-number_fits types.Ui8 z = mapped types.Ui8 scalars.Ui8 _ (λ x. refl)
-number_fits types.Uint z = mapped types.Uint scalars.Uint _ (λ x. refl)
-number_fits types.Error z = mapped types.Error scalars.Error _ (λ x. refl)
-number_fits types.Cy z = mapped types.Cy scalars.Cy _ (λ x. refl)
-number_fits types.Decimal z = mapped types.Decimal scalars.Decimal _ (λ x. refl)
-number_fits types.Variant z = mapped types.Variant scalars.I4 _ (λ x. refl)
 number_fits types.Empty z = tt
 number_fits types.Null z = tt
 number_fits types.Bool z = tt
 number_fits types.Bstr z = tt
+number_fits t z = mapped t _ _ (λ x. refl)
 
-short_text : (t : VarType) (b : Bool) (cs : List ℕ) → FitsIn t (scalars.Bstr (Some (wide cs))) → IfSome (if b then Some (scalars.Bstr (Some (wide cs))) else None) (FitsIn t)
+short_text : (t : VarType) (b : Bool) (cs : List ℕ) → FitsIn t (scalars.Bstr (Some (wide cs)))
+    → IfSome (if b then Some (scalars.Bstr (Some (wide cs))) else None) (FitsIn t)
 short_text t true cs fit = fit
 short_text t false cs fit = tt
 
 text_fits : (t : VarType) (cs : List ℕ) → IfSome (text_as t cs) (FitsIn t)
 text_fits types.Bstr cs = short_text types.Bstr _ cs refl
 text_fits types.Variant cs = short_text types.Variant _ cs refl
-text_fits types.I1 cs = tt
-text_fits types.I2 cs = tt
-text_fits types.I4 cs = tt
-text_fits types.I8 cs = tt
-text_fits types.Int cs = tt
-text_fits types.Ui1 cs = tt
-text_fits types.Ui2 cs = tt
-text_fits types.Ui4 cs = tt
-text_fits types.Ui8 cs = tt
-text_fits types.Uint cs = tt
-text_fits types.Error cs = tt
-text_fits types.Cy cs = tt
-text_fits types.Decimal cs = tt
-text_fits types.Empty cs = tt
-text_fits types.Null cs = tt
-text_fits types.Bool cs = tt
+text_fits t cs = tt
 
 truth_fits : (t : VarType) (b : Bool) → IfSome (truth_as t b) (FitsIn t)
 truth_fits types.Bool b = refl
 truth_fits types.Variant b = refl
-truth_fits types.Bstr b = tt
-truth_fits types.I1 b = tt
-truth_fits types.I2 b = tt
-truth_fits types.I4 b = tt
-truth_fits types.I8 b = tt
-truth_fits types.Int b = tt
-truth_fits types.Ui1 b = tt
-truth_fits types.Ui2 b = tt
-truth_fits types.Ui4 b = tt
-truth_fits types.Ui8 b = tt
-truth_fits types.Uint b = tt
-truth_fits types.Error b = tt
-truth_fits types.Cy b = tt
-truth_fits types.Decimal b = tt
-truth_fits types.Empty b = tt
-truth_fits types.Null b = tt
+truth_fits t b = tt
 
 literal_fits : (t : VarType) (l : Literal) → IfSome (default_of (kinds.One t) l) (FitsIn t)
 literal_fits t (literals.Number z) = number_fits t z
@@ -121,23 +80,7 @@ own_fits t (Some l) = literal_fits t l
 
 zero_fits : (t : VarType) → FitsIn t (without_default t)
 zero_fits types.Variant = refl
-zero_fits types.Bstr = refl
-zero_fits types.I1 = refl
-zero_fits types.I2 = refl
-zero_fits types.I4 = refl
-zero_fits types.I8 = refl
-zero_fits types.Int = refl
-zero_fits types.Ui1 = refl
-zero_fits types.Ui2 = refl
-zero_fits types.Ui4 = refl
-zero_fits types.Ui8 = refl
-zero_fits types.Uint = refl
-zero_fits types.Error = refl
-zero_fits types.Cy = refl
-zero_fits types.Decimal = refl
-zero_fits types.Empty = refl
-zero_fits types.Null = refl
-zero_fits types.Bool = refl
+zero_fits t = refl
 
 either_fits : (t : VarType) (o : Option Scalar) → IfSome o (FitsIn t) → FitsIn t (unwrap_or o (without_default t))
 either_fits t None h = zero_fits t
@@ -162,9 +105,14 @@ argument_fits : (t : VarType) (i : ℕ) (argument : Variant) → IfOk (value_by_
 argument_fits t i (One s) = told_fits (FitsIn t) i (coerced_scalar s t) (scalar_made t s)
 argument_fits t i (Array a) = tt
 
-given_fits : (t : VarType) (l : Option Literal) (o : Option (ℕ × Variant)) (p : Parameter) → p.value_type ≡ kinds.One t → IfOk (value_of_parameter p o) (λ s. fits_declared (One s) (kinds.One t) ≡ true)
-given_fits t l None p is = subst (λ (v : ValueType). fits_declared (One (unwrap_or (option_and_then (default_of v) p.default) (without_default (scalar_type v)))) (kinds.One t) ≡ true) (sym is) (either_fits t (option_and_then (default_of (kinds.One t)) p.default) (own_fits t p.default))
-given_fits t l (Some (i, argument)) p is = subst (λ (v : ValueType). IfOk (value_by_argument (scalar_type v) i argument) (λ s. fits_declared (One s) (kinds.One t) ≡ true)) (sym is) (argument_fits t i argument)
+given_fits : (t : VarType) (l : Option Literal) (o : Option (ℕ × Variant)) (p : Parameter) → p.value_type ≡ kinds.One t
+    → IfOk (value_of_parameter p o) (λ s. fits_declared (One s) (kinds.One t) ≡ true)
+given_fits t l None p is =
+    subst (λ (v : ValueType). fits_declared (One (unwrap_or (option_and_then (default_of v) p.default) (without_default (scalar_type v)))) (kinds.One t) ≡ true)
+    (sym is) (either_fits t (option_and_then (default_of (kinds.One t)) p.default) (own_fits t p.default))
+given_fits t l (Some (i, argument)) p is =
+    subst (λ (v : ValueType). IfOk (value_by_argument (scalar_type v) i argument) (λ s. fits_declared (One s) (kinds.One t) ≡ true)) (sym is)
+    (argument_fits t i argument)
 
 parameter_fits : (p : Parameter) (o : Option (ℕ × Variant)) → IsOne p.value_type → IfOk (value_of_parameter p o) (FitsParameter p)
 parameter_fits p o one = by p.value_type refl one
@@ -179,8 +127,8 @@ unfolding each_at
 key_made call place [] ones = refl
 key_made call place (p ∷ ps) ones =
     if_both _ (parameter_value call place p) _ (λ s here. if_both _ (each_at (parameter_value call) (place + 1) ps) _ (λ ss rest.
-    let first : fits_declared (One s) p.value_type ≡ true = rw here at (parameter_fits p (argument_for call place) ones.0) in
-    let others : key_fits ps ss ≡ true = rw rest at (key_made call (place + 1) ps ones.1) in
+    let first : fits_declared (One s) p.value_type ≡ true = rw here given_argument (parameter_fits p (argument_for call place) ones.0) in
+    let others : key_fits ps ss ≡ true = rw rest given_argument (key_made call (place + 1) ps ones.1) in
     and_from (fits_declared (One s) p.value_type) (key_fits ps ss) first others))
 
 -- ---- the new value of a put
@@ -197,7 +145,8 @@ value_made declared argument = by (coerced argument declared) refl
 new_made : (declared : ValueType) (index : Option ℕ) (argument : Option Variant) → IfOk (new_value_of declared index argument) (FitsValue declared)
 new_made declared None argument = tt
 new_made declared (Some i) None = tt
-new_made declared (Some i) (Some argument) = by (told_of_argument i (coerced argument declared)) (told_fits _ i (coerced argument declared) (value_made declared argument))
+new_made declared (Some i) (Some argument) = by (told_of_argument i (coerced argument declared))
+    (told_fits _ i (coerced argument declared) (value_made declared argument))
   where
     by : (r : Result Variant BindFault) → IfOk r (λ v. fits_declared v declared ≡ true) → IfOk (r >>= λ value. Ok (Some value)) (FitsValue declared)
     by (Ok v) h = h
@@ -205,7 +154,7 @@ new_made declared (Some i) (Some argument) = by (told_of_argument i (coerced arg
 
 new_fits : (call : Given) (declared : ValueType) (kind : Kind) → IfOk (given_new_value call declared kind) (FitsValue declared)
 new_fits call declared Get = tt
-new_fits call declared Put = let i = argument_index call.named (length call.arguments) new_value_id in new_made declared i (at i call.arguments)
+new_fits call declared Put = let i = argument_index call.named (length call.arguments) new_value_id in new_made declared i (given_argument i call.arguments)
 
 -- ---- the call
 pub record FitsMember (member : MemberValue) (call : BoundCallValue) : Type 0 where
@@ -220,6 +169,6 @@ bound_fits member kind call is =
     if_both (FitsMember member) (each_at (parameter_value call) 0 member.parameters) _ (λ key keyed.
     if_both (FitsMember member) (given_new_value call member.value_type kind) _ (λ value valued.
     record {
-      key = rw keyed at (key_made call 0 member.parameters is.scalars);
-      value = rw valued at (new_fits call member.value_type kind);
+      key = rw keyed given_argument (key_made call 0 member.parameters is.scalars);
+      value = rw valued given_argument (new_fits call member.value_type kind);
     }))))

@@ -1,18 +1,18 @@
 -- What is planned of a call that brings no more than a new value, as a turn.
 use Rattle.std.proofs.Common.{◌≡◌, inl, inr, ℕ, List, [], refl}
-use Rattle.oa_record.specs.Asks.{Asks, tag_at}
-use Rattle.oa_record.specs.Replies.{ReplyValue}
+use Rattle.oa_record.specs.promise.Asks.{Asks, tag_at}
+use Rattle.oa_record.specs.promise.Replies.{ReplyValue}
 use Rattle.oa_record.specs.declared.request.Request.{Request}
 use Rattle.oa_record.specs.declared.opcode.ByCall.TheVariants.{Invoke}
 use Rattle.oa_record.specs.declared.opcode.ByNumber.TheVariants.{Release}
 use Rattle.oa_record.specs.declared.request.Request.TheVariants.{ByCall, ByNumber}
-use Rattle.oa_decision.specs.States.{State}
+use Rattle.oa_decision.specs.promise.States.{State}
 use Rattle.oa_decision.specs.declared.plan.ValuePlan.{ValuePlan}
 use Rattle.oa_decision.specs.declared.plan.ValuePlan.TheVariants.{Answered, Put}
 use Rattle.oa_decision.specs.declared.plan.ValuePut.{ValuePut}
-use Rattle.oa_turn.specs.Events.{HasEvent}
+use Rattle.oa_turn.specs.promise.Events.{HasEvent}
 use Rattle.oa_turn.specs.Plans.{IsDrafted, PlansCall, put_planned}
-use Rattle.oa_turn.specs.Turns.{Ordinary}
+use Rattle.oa_turn.specs.promise.Turns.{Ordinary}
 use Rattle.oa_turn.proofs.Eventless.{eventless, undone}
 use Rattle.oa_turn.proofs.Refused.{lacks, told}
 

@@ -6,35 +6,35 @@ use Rattle.std.specs.Option.{option_and_then}
 use Rattle.std.proofs.lemmas.Bool.{and_from}
 use Rattle.std.proofs.lemmas.Option.{none-some}
 use Rattle.uuid.specs.Parts.{is_nil_bytes}
-use Rattle.oa_model.specs.Codes.{disp_e_unknowninterface}
+use Rattle.oa_model.specs.promise.Codes.{disp_e_unknowninterface}
 use Rattle.oa_model.specs.declared.bound.Bound.{Bound}
 use Rattle.oa_model.specs.declared.hresult.HResult.{HResult}
 use Rattle.oa_model.specs.declared.var_type.ValueType.{ValueType}
 use Rattle.oa_model.specs.declared.var_type.ValueType.TheVariants as kinds
-use Rattle.oa_idl.specs.Trees.{TreeValue}
-use Rattle.oa_idl.specs.Values.{CoclassValue, InterfaceValue}
+use Rattle.oa_idl.specs.promise.Trees.{TreeValue}
+use Rattle.oa_idl.specs.promise.Values.{CoclassValue, InterfaceValue}
 use Rattle.oa_idl.specs.declared.items.Item.{Item}
 use Rattle.oa_idl.specs.declared.items.Item.TheVariants.{Interface, Coclass}
-use Rattle.oa_variant.specs.Variants.{fits_declared, unlocked, zero_value}
+use Rattle.oa_variant.specs.promise.Variants.{fits_declared, unlocked, zero_value}
 use Rattle.oa_variant.specs.declared.variant.Variant.{Variant}
 use Rattle.oa_typelib.specs.Bindable.{AreSound, IsBindable, IsSoundItem}
-use Rattle.oa_typelib.specs.Checked.{IsChecked}
-use Rattle.oa_checks.specs.Declarations.{declarations}
-use Rattle.oa_checks.specs.Libraries.{as_interface, class_of, item_guid, has_interface, if_entered, interface_of, item_with, same}
-use Rattle.oa_checks.specs.Libraries.{selected_in}
-use Rattle.oa_typelib.specs.MemberValues.{MemberValue}
-use Rattle.oa_typelib.specs.Members.{member_in, property_in}
+use Rattle.oa_typelib.specs.promise.Checked.{IsChecked}
+use Rattle.oa_sema.specs.promise.Declarations.{declarations}
+use Rattle.oa_sema.specs.promise.Libraries.{as_interface, class_of, item_guid, has_interface, if_entered, interface_of}
+use Rattle.oa_sema.specs.promise.Libraries.{item_with, same, selected_in}
+use Rattle.oa_typelib.specs.promise.MemberValues.{MemberValue}
+use Rattle.oa_typelib.specs.promise.Members.{member_in, property_in}
 use Rattle.oa_typelib.specs.declared.access.Access.{Access}
 use Rattle.oa_typelib.specs.declared.access.Access.TheVariants as accesses
 use Rattle.oa_typelib.specs.declared.access.Kind.{Kind}
 use Rattle.oa_typelib.specs.declared.access.MemberFault.{MemberFault}
 use Rattle.oa_typelib.proofs.Found.{find_all, member_bindable}
 use Rattle.oa_typelib.proofs.Sound.{tree_sound}
-use Rattle.oa_bind.specs.Bindings.{bound_to}
-use Rattle.oa_bind.specs.Calls.{BoundCallValue}
-use Rattle.oa_bind.specs.Given.{Given}
+use Rattle.oa_bind.specs.promise.Bindings.{bound_to}
+use Rattle.oa_bind.specs.promise.Calls.{BoundCallValue}
+use Rattle.oa_bind.specs.promise.Given.{Given}
 use Rattle.oa_bind.specs.declared.fault.BindFault.{BindFault}
-use Rattle.oa_record.specs.Replies.{ReplyValue}
+use Rattle.oa_record.specs.promise.Replies.{ReplyValue}
 use Rattle.oa_record.specs.declared.request.Call.{Call}
 use Rattle.oa_record.specs.declared.request.Request.{Request}
 use Rattle.oa_record.specs.declared.request.Request.TheVariants as requests
@@ -43,44 +43,45 @@ use Rattle.oa_record.specs.declared.opcode.ByNumber.TheVariants as by_number
 use Rattle.oa_table.specs.declared.event.Event.{Event}
 use Rattle.oa_table.specs.declared.event.Event.TheVariants as events
 use Rattle.oa_table.specs.declared.fault.TableFault.{TableFault}
-use Rattle.oa_table.specs.Elements.{redimensioned_value}
-use Rattle.oa_table.specs.Events.{applied}
-use Rattle.oa_table.specs.Places.{PlaceValue}
-use Rattle.oa_table.specs.Tables.{ObjectValue, TableValue, class_in, object_at}
-use Rattle.oa_fits.specs.Brings.{brings_fitting, put_fits}
-use Rattle.oa_fits.specs.Fits.{entered, fits, key_fits}
-use Rattle.oa_fits.proofs.Entered.{found_property, selected_entered}
-use Rattle.oa_fits.proofs.Kept.{lock_kept, redim_leaves, unlock_kept, unlocked_alike}
-use Rattle.oa_decision.specs.Limits.{allowed}
+use Rattle.oa_table.specs.promise.Elements.{redimensioned_value}
+use Rattle.oa_table.specs.promise.Events.{applied}
+use Rattle.oa_table.specs.promise.Places.{PlaceValue}
+use Rattle.oa_table.specs.promise.Tables.{ObjectValue, TableValue, class_in, object_at}
+use Rattle.oa_compat.specs.Brings.{brings_fitting, put_fits}
+use Rattle.oa_compat.specs.promise.Fits.{entered, fits, key_fits}
+use Rattle.oa_compat.proofs.Entered.{found_property, selected_entered}
+use Rattle.oa_compat.proofs.Kept.{lock_kept, redim_leaves, unlock_kept, unlocked_alike}
+use Rattle.oa_decision.specs.promise.Limits.{allowed}
 use Rattle.oa_decision.specs.declared.decision.Decision.{Decision}
 use Rattle.oa_decision.specs.declared.decision.Decision.TheVariants.{Answer, Change, Relock}
 use Rattle.oa_decision.specs.declared.decision.LockChange.{LockChange}
 use Rattle.oa_decision.specs.declared.decision.LockChange.TheVariants.{Lock, Unlock}
 use Rattle.oa_decision.specs.declared.refusal.Refusal.{Refusal}
 use Rattle.oa_decision.specs.declared.decider.cell.BoundCell.{BoundCell}
-use Rattle.oa_decision.specs.ArrayCells.{as_refused, element_in, locks_found, put_in}
-use Rattle.oa_decision.specs.Cells.{bound_as, call_found, cell_called, member_found, place_of}
-use Rattle.oa_decision.specs.Create.{class_found, is_used_up, fitting}
-use Rattle.oa_turn.specs.Steps.{after_outcome, changed, outcome_of, relocked, relocking, with_table}
-use Rattle.oa_decision.specs.Interfaces.{interface_found}
-use Rattle.oa_decision.specs.Invoke.{acting}
-use Rattle.oa_decision.specs.LookUps.{ids_found}
-use Rattle.oa_decision.specs.PutElement.{element_for}
-use Rattle.oa_decision.specs.Redimension.{resizing, zero_with}
-use Rattle.oa_decision.specs.Refusals.{◌>>=◌, known, unless}
-use Rattle.oa_decision.specs.States.{State}
-use Rattle.oa_decision.specs.Decided.{decided}
-use Rattle.oa_keeps.specs.Keeps.{first_lost}
-use Rattle.oa_keeps.specs.declared.lost.Lost.{Lost}
-use Rattle.oa_fits.proofs.KeptFits.{kept_fits}
-use Rattle.oa_keeps.proofs.Losses.{keeps_all}
-use Rattle.oa_turn.specs.Replacing.{Replacement, after_replacement}
-use Rattle.oa_turn.specs.Turns.{Ordinary, Run, Turn}
-use Rattle.oa_decision.specs.TypeInfo.{description_of}
+use Rattle.oa_decision.specs.promise.ArrayCells.{as_refused, element_in, locks_found, put_in}
+use Rattle.oa_decision.specs.promise.Cells.{bound_as, call_found, cell_called, member_found, place_of}
+use Rattle.oa_decision.specs.promise.Create.{class_found, is_used_up, fitting}
+use Rattle.oa_turn.specs.promise.Steps.{after_outcome, changed, outcome_of, relocked, relocking, with_table}
+use Rattle.oa_decision.specs.promise.Interfaces.{interface_found}
+use Rattle.oa_decision.specs.promise.Invoke.{acting}
+use Rattle.oa_decision.specs.promise.LookUps.{ids_found}
+use Rattle.oa_decision.specs.promise.PutElement.{element_for}
+use Rattle.oa_decision.specs.promise.Redimension.{resizing, zero_with}
+use Rattle.oa_decision.specs.promise.Refusals.{◌>>=◌, known, unless}
+use Rattle.oa_decision.specs.promise.States.{State}
+use Rattle.oa_decision.specs.promise.Decided.{decided}
+use Rattle.oa_compat.specs.promise.Keeps.{first_lost}
+use Rattle.oa_compat.specs.declared.lost.Incompatibility.{Incompatibility}
+use Rattle.oa_compat.proofs.KeptFits.{kept_fits}
+use Rattle.oa_compat.proofs.Losses.{keeps_all}
+use Rattle.oa_turn.specs.promise.Replacing.{Replacement, after_replacement}
+use Rattle.oa_turn.specs.promise.Turns.{Ordinary, Run, Turn}
+use Rattle.oa_decision.specs.promise.TypeInfo.{description_of}
 use Rattle.oa_turn.proofs.Bound.{FitsMember, bound_fits}
 
 -- ---- answers one after another
-after_both : {A B : Type 0} (P : B → Type 0) (first : Result A Refusal) (next : A → Result B Refusal) → ((x : A) → first ≡ Ok x → IfOk (next x) P) → IfOk (first >>= next) P
+after_both : {A B : Type 0} (P : B → Type 0) (first : Result A Refusal) (next : A → Result B Refusal) → ((x : A) → first ≡ Ok x → IfOk (next x) P)
+    → IfOk (first >>= next) P
 after_both P (Ok x) next h = h x refl
 after_both P (Err r) next h = tt
 
@@ -114,7 +115,8 @@ entered_there c (Some d) i h = by (has_interface c d) h
     by true is = is
     by false is = absurd (none-some i is)
 
-class_entered : (library : TreeValue) (guid : List ℕ) (o : Option CoclassValue) (i : InterfaceValue) → option_and_then (λ c. option_and_then (if_entered c) (interface_of library guid)) o ≡ Some i → interface_of library guid ≡ Some i
+class_entered : (library : TreeValue) (guid : List ℕ) (o : Option CoclassValue) (i : InterfaceValue)
+    → option_and_then (λ c. option_and_then (if_entered c) (interface_of library guid)) o ≡ Some i → interface_of library guid ≡ Some i
 class_entered library guid None i h = absurd (none-some i h)
 class_entered library guid (Some c) i h = entered_there c (interface_of library guid) i h
 
@@ -125,7 +127,8 @@ pub record IsReached (state : State) (number : ℕ) (found : InterfaceValue) : T
   pub there : entered state.library class found.guid ≡ Some found
   pub sound : AreSound (declarations found)
 
-reached : (state : State) (number : ℕ) (class : List ℕ) (found : InterfaceValue) → IsChecked state.library → class_in (object_at number state.table) ≡ Some class
+reached : (state : State) (number : ℕ) (class : List ℕ) (found : InterfaceValue) → IsChecked state.library
+    → class_in (object_at number state.table) ≡ Some class
     → entered state.library class found.guid ≡ Some found → IsReached state number found
 reached state number class found is object there = record {
   class = class;
@@ -136,7 +139,8 @@ reached state number class found is object there = record {
       (find_all IsSoundItem (λ (x : Item). same found.guid (item_guid x)) state.library.items (tree_sound state.library is));
 }
 
-interface_reached : (state : State) (number : ℕ) (interface riid : List ℕ) → IsChecked state.library → IfOk (interface_found state number interface riid) (IsReached state number)
+interface_reached : (state : State) (number : ℕ) (interface riid : List ℕ) → IsChecked state.library → IfOk (interface_found state number interface riid)
+    (IsReached state number)
 unfolding interface_found
 interface_reached state number interface riid is =
     after_both (IsReached state number) (known _ (class_in (object_at number state.table))) _ (λ class a.
@@ -149,11 +153,14 @@ interface_reached state number interface riid is =
 -- ---- the cell
 -- a value of the declared type fits in the cell, and the new value is of it
 pub record IsFor (state : State) (cell : BoundCell) : Type 0 where
-  pub put : (value : Variant) → fits_declared value cell.declared ≡ true → put_fits state.library cell.name.place value (object_at cell.name.object state.table) ≡ true
+  pub put : (value : Variant) → fits_declared value cell.declared ≡ true → put_fits state.library cell.name.place value (object_at cell.name.object state.table)
+      ≡ true
   pub brought : IfSome cell.value (λ value. fits_declared value cell.declared ≡ true)
 
-put_into : (library : TreeValue) (place : PlaceValue) (value : Variant) (o : Option ObjectValue) (class : List ℕ) (found : InterfaceValue) (member : MemberValue) → class_in o ≡ Some class → entered library class place.interface ≡ Some found
-    → property_in found place.dispid ≡ Some member → key_fits member.parameters place.key ≡ true → fits_declared value member.value_type ≡ true → put_fits library place value o ≡ true
+put_into : (library : TreeValue) (place : PlaceValue) (value : Variant) (o : Option ObjectValue) (class : List ℕ) (found : InterfaceValue)
+    (member : MemberValue) → class_in o ≡ Some class → entered library class place.interface ≡ Some found
+    → property_in found place.dispid ≡ Some member → key_fits member.parameters place.key ≡ true → fits_declared value member.value_type ≡ true
+    → put_fits library place value o ≡ true
 put_into library place value None class found member here there property key fit = refl
 put_into library place value (Some object) class found member here there property key fit =
     let e : object.class ≡ class = cc in
@@ -174,7 +181,8 @@ cell_is_for state call access is =
     let fit : FitsMember found.0 bound = rw made at (bound_fits found.0 (bound_as access found.1) given bindable) in
     record {
       put = λ value of_type.
-          put_into state.library (place_of interface.guid call.head bound) value (object_at call.head.object state.table) reach.class interface found.0 reach.object reach.there property fit.key of_type;
+          put_into state.library (place_of interface.guid call.head bound) value (object_at call.head.object state.table) reach.class interface found.0
+          reach.object reach.there property fit.key of_type;
       brought = fit.value;
     })))
 
@@ -185,7 +193,8 @@ Brings state (Change event fields) = brings_fitting state.library state.table ev
 Brings state (Relock change fields) = Unit {0}
 
 class_known : (state : State) (class : List ℕ) → IfOk (class_found state class) (λ _. is_some (class_of state.library class) ≡ true)
-class_known state class = after_both _ (known _ (class_of state.library class)) _ (λ c a. always _ (unless _ (is_used_up state.table)) (λ _. ap is_some (known_is _ (class_of state.library class) c a)))
+class_known state class = after_both _ (known _ (class_of state.library class)) _
+    (λ c a. always _ (unless _ (is_used_up state.table)) (λ _. ap is_some (known_is _ (class_of state.library class) c a)))
 
 invoked : (state : State) (cell : BoundCell) → IsFor state cell → Brings state (acting state cell.name cell.declared cell.value)
 invoked state cell is = by cell.value is.brought
@@ -199,30 +208,40 @@ zero_resized : (bound : Bound) (declared : ValueType) → IfOk (zero_with bound 
 zero_resized bound (kinds.One t) = tt
 zero_resized bound (kinds.Array t) = by (redimensioned_value bound (zero_value (kinds.Array t))) (redim_leaves bound (zero_value (kinds.Array t)))
   where
-    by : (r : Result Variant TableFault) → IfOk r (λ w. (u : ValueType) → fits_declared (zero_value (kinds.Array t)) u ≡ fits_declared w u) → IfOk (as_refused r) (λ value. fits_declared value (kinds.Array t) ≡ true)
+    by : (r : Result Variant TableFault) → IfOk r (λ w. (u : ValueType) → fits_declared (zero_value (kinds.Array t)) u ≡ fits_declared w u)
+        → IfOk (as_refused r) (λ value. fits_declared value (kinds.Array t) ≡ true)
     by (Ok value) alike = sym (alike (kinds.Array t)) ∙ search rules
     by (Err fault) alike = tt
 
-resized : (state : State) (cell : BoundCell) (bound : Bound) (o : Option Variant) → IsFor state cell → IfOk (resizing cell.name cell.declared bound o) (Brings state)
-resized state cell bound None is = after_both (Brings state) (zero_with bound cell.declared) _ (λ value a. is.put value (rw a at (zero_resized bound cell.declared)))
+resized : (state : State) (cell : BoundCell) (bound : Bound) (o : Option Variant) → IsFor state cell
+    → IfOk (resizing cell.name cell.declared bound o) (Brings state)
+resized state cell bound None is = after_both (Brings state) (zero_with bound cell.declared) _
+    (λ value a. is.put value (rw a at (zero_resized bound cell.declared)))
 resized state cell bound (Some value) is = refl
 
 module _ (state : State) (is : IsChecked state.library) where
-  called : (call : Call) (access : Access) (next : BoundCell → Result Decision Refusal) → ((cell : BoundCell) → IsFor state cell → IfOk (next cell) (Brings state)) → IfOk (cell_called state call access >>= next) (Brings state)
+  called : (call : Call) (access : Access) (next : BoundCell → Result Decision Refusal)
+      → ((cell : BoundCell) → IsFor state cell → IfOk (next cell) (Brings state)) → IfOk (cell_called state call access >>= next) (Brings state)
   called call access next each =
-      after_both (Brings state) (cell_called state call access) next (λ cell a. let for : IsFor state cell = rw a at (cell_is_for state call access is) in each cell for)
+      after_both (Brings state) (cell_called state call access) next
+      (λ cell a. let for : IsFor state cell = rw a at (cell_is_for state call access is) in each cell for)
 
   decided_brings : (request : Request) → IfOk (decided state request) (Brings state)
-  decided_brings (requests.Create class) = after_both (Brings state) (class_found state class) _ (λ u a. after_both (Brings state) (fitting (allowed state.bank (events.Create state.table.next class) state.table)) _ (λ v b. rw a at (class_known state class)))
+  decided_brings (requests.Create class) = after_both (Brings state) (class_found state class) _
+      (λ u a. after_both (Brings state) (fitting (allowed state.bank (events.Create state.table.next class) state.table)) _
+      (λ v b. rw a at (class_known state class)))
   decided_brings (requests.ByNumber by_number.Release number) = refl
   decided_brings (requests.GetIds call) = after_both (Brings state) (ids_found state call) _ (λ found a. tt)
   decided_brings (requests.ByCall by_call.Invoke call) = called call (accesses.Flags call.head.flags) _ (λ cell for. invoked state cell for)
-  decided_brings (requests.GetElement call index) = called call accesses.Get _ (λ cell for. after_both (Brings state) (element_in state index cell) _ (λ element a. tt))
+  decided_brings (requests.GetElement call index) =
+      called call accesses.Get _ (λ cell for. after_both (Brings state) (element_in state index cell) _ (λ element a. tt))
   decided_brings (requests.PutElement call index value) =
       called call accesses.Put _ (λ cell for. after_both (Brings state) (element_for state index value cell) _ (λ element a. refl))
   decided_brings (requests.Redimension call bound) = called call accesses.Put _ (λ cell for. resized state cell bound (put_in state cell.name) for)
-  decided_brings (requests.ByCall by_call.Lock call) = called call accesses.Get _ (λ cell for. after_both (Brings state) (locks_found state cell) _ (λ locks a. tt))
-  decided_brings (requests.ByCall by_call.Unlock call) = called call accesses.Get _ (λ cell for. after_both (Brings state) (locks_found state cell) _ (λ locks a. tt))
+  decided_brings (requests.ByCall by_call.Lock call) =
+      called call accesses.Get _ (λ cell for. after_both (Brings state) (locks_found state cell) _ (λ locks a. tt))
+  decided_brings (requests.ByCall by_call.Unlock call) =
+      called call accesses.Get _ (λ cell for. after_both (Brings state) (locks_found state cell) _ (λ locks a. tt))
   decided_brings (requests.ByNumber by_number.TypeInfo index) = after_both (Brings state) (known _ (description_of state index)) _ (λ description a. tt)
   decided_brings (requests.Query query) = tt
 
@@ -232,18 +251,22 @@ abbrev pub StaysFit : State → State → Type 0
 StaysFit old new = (new.library ≡ old.library) × (fits new.library new.table ≡ true)
 
 abbrev pub EventKept : Type 0
-EventKept = (library : TreeValue) (table : TableValue) (event : Event) → fits library table ≡ true → brings_fitting library table event ≡ true → IfOk (applied event table) (λ new. fits library new ≡ true)
+EventKept = (library : TreeValue) (table : TableValue) (event : Event) → fits library table ≡ true → brings_fitting library table event ≡ true
+    → IfOk (applied event table) (λ new. fits library new ≡ true)
 
 module _ (event_kept : EventKept) where
-  with_fit : (state : State) (r : Result TableValue TableFault) → fits state.library state.table ≡ true → IfOk r (λ new. fits state.library new ≡ true) → StaysFit state (with_table state r)
+  with_fit : (state : State) (r : Result TableValue TableFault) → fits state.library state.table ≡ true → IfOk r (λ new. fits state.library new ≡ true)
+      → StaysFit state (with_table state r)
   with_fit state (Ok table) fit h = (refl, h)
   with_fit state (Err fault) fit h = (refl, fit)
 
-  lock_fit : (state : State) (change : LockChange) → fits state.library state.table ≡ true → IfOk (relocked change state.table) (λ new. fits state.library new ≡ true)
+  lock_fit : (state : State) (change : LockChange) → fits state.library state.table ≡ true
+      → IfOk (relocked change state.table) (λ new. fits state.library new ≡ true)
   lock_fit state (Lock name) fit = lock_kept state.library state.table name fit
   lock_fit state (Unlock name) fit = unlock_kept state.library state.table name fit
 
-  outcome_fit : (state : State) (due : Result Decision Refusal) → fits state.library state.table ≡ true → IfOk due (Brings state) → StaysFit state (after_outcome state (outcome_of state due))
+  outcome_fit : (state : State) (due : Result Decision Refusal) → fits state.library state.table ≡ true → IfOk due (Brings state)
+      → StaysFit state (after_outcome state (outcome_of state due))
   outcome_fit state (Err r) fit brings = (refl, fit)
   outcome_fit state (Ok (Answer code fields)) fit brings = (refl, fit)
   outcome_fit state (Ok (Change event fields)) fit brings = by (allowed state.bank event state.table)
@@ -260,8 +283,10 @@ module _ (event_kept : EventKept) where
   stays : (old new : State) → new ≡ old → fits old.library old.table ≡ true → StaysFit old new
   stays old new e fit = rw e (refl, fit)
 
-  ordinary_fit : (old new : State) (body : List ℕ) (reply : ReplyValue) → IsChecked old.library → fits old.library old.table ≡ true → Ordinary old body reply new → StaysFit old new
-  ordinary_fit old new body reply is fit (inl s) = subst (StaysFit old) (sym s.leaves) (outcome_fit old (decided old s.request) fit (decided_brings old is s.request))
+  ordinary_fit : (old new : State) (body : List ℕ) (reply : ReplyValue) → IsChecked old.library → fits old.library old.table ≡ true
+      → Ordinary old body reply new → StaysFit old new
+  ordinary_fit old new body reply is fit (inl s) =
+      subst (StaysFit old) (sym s.leaves) (outcome_fit old (decided old s.request) fit (decided_brings old is s.request))
   ordinary_fit old new body reply is fit (inr (inl s)) = stays old new s.leaves fit
   ordinary_fit old new body reply is fit (inr (inr (inl s))) = stays old new s.leaves fit
   ordinary_fit old new body reply is fit (inr (inr (inr s))) = stays old new s.leaves fit
@@ -269,20 +294,24 @@ module _ (event_kept : EventKept) where
   abbrev pub IsFit : State → Type 0
   IsFit state = IsChecked state.library × (fits state.library state.table ≡ true)
 
-  replacement_fit : (old new : State) (body : List ℕ) (reply : ReplyValue) → IsChecked old.library → fits old.library old.table ≡ true → Replacement old body reply new → IsFit new
+  replacement_fit : (old new : State) (body : List ℕ) (reply : ReplyValue) → IsChecked old.library → fits old.library old.table ≡ true
+      → Replacement old body reply new → IsFit new
   replacement_fit old new body reply is fit (inl s) = by (first_lost s.library old.library) refl s.leaves
     where
-      by : (lost : Option Lost) → first_lost s.library old.library ≡ lost → new ≡ after_replacement old s.library lost → IsFit new
-      by None none leaves = let checked : IsChecked s.library = (s.asked.text, s.asked.stands.1) in subst IsFit (sym leaves) (checked, kept_fits s.library old.library checked (keeps_all s.library old.library none) old.table fit)
+      by : (lost : Option Incompatibility) → first_lost s.library old.library ≡ lost → new ≡ after_replacement old s.library lost → IsFit new
+      by None none leaves = let checked : IsChecked s.library = (s.asked.text, s.asked.stands.1) in
+          subst IsFit (sym leaves) (checked, kept_fits s.library old.library checked (keeps_all s.library old.library none) old.table fit)
       by (Some lost) some leaves = subst IsFit (sym leaves) (is, fit)
   replacement_fit old new body reply is fit (inr (inl s)) = subst IsFit (sym s.leaves) (is, fit)
   replacement_fit old new body reply is fit (inr (inr s)) = subst IsFit (sym s.leaves) (is, fit)
 
-  pub turn_fit : (old new : State) (body : List ℕ) (reply : ReplyValue) → IsChecked old.library → fits old.library old.table ≡ true → Turn old body reply new → IsFit new
+  pub turn_fit : (old new : State) (body : List ℕ) (reply : ReplyValue) → IsChecked old.library → fits old.library old.table ≡ true → Turn old body reply new
+      → IsFit new
   turn_fit old new body reply is fit (inl s) = let here = ordinary_fit old new body reply is fit s.turn in (subst IsChecked (sym here.0) is, here.1)
   turn_fit old new body reply is fit (inr s) = replacement_fit old new body reply is fit s.turn
 
-  pub run_fit : (old new : State) (bodies : List (List ℕ)) (replies : List ReplyValue) → IsChecked old.library → fits old.library old.table ≡ true → Run old bodies replies new → IsFit new
+  pub run_fit : (old new : State) (bodies : List (List ℕ)) (replies : List ReplyValue) → IsChecked old.library → fits old.library old.table ≡ true
+      → Run old bodies replies new → IsFit new
   run_fit old new [] [] is fit r = subst IsFit (sym r) (is, fit)
   run_fit old new [] (y ∷ ys) is fit r = absurd r
   run_fit old new (x ∷ xs) [] is fit r = absurd r

@@ -12,6 +12,8 @@ pub mod SameLibrary
 pub mod Tags
 pub mod Beginning
 pub mod OneState
+pub mod Finding
+pub mod Counted
 -- what this crate alone does
 mod LockAsked
 mod Wants
@@ -21,3 +23,6 @@ mod Bound
 mod Bringing
 mod Planning
 mod Own
+mod CellOrder
+mod InClient
+mod InClients

@@ -5,23 +5,24 @@ use Rattle.std.specs.Prelude.{◌&&◌, not, if◌then◌else◌}
 use Rattle.std.proofs.lemmas.Bool.Decides.{eqb_tells}
 use Rattle.oa_model.specs.declared.hresult.HResult.{HResult}
 use Rattle.oa_record.specs.declared.request.Request.{Request}
-use Rattle.oa_record.specs.Asks.{tag_at}
-use Rattle.oa_record.specs.Replies.{ReplyValue}
+use Rattle.oa_record.specs.promise.Asks.{tag_at}
+use Rattle.oa_record.specs.promise.Replies.{ReplyValue}
 use Rattle.oa_table.specs.declared.fault.TableFault.{TableFault}
-use Rattle.oa_table.specs.Tables.{TableValue}
+use Rattle.oa_table.specs.promise.Tables.{TableValue}
 use Rattle.oa_decision.specs.declared.decision.Decision.{Decision}
 use Rattle.oa_decision.specs.declared.decision.Decision.TheVariants.{Answer, Change, Relock}
 use Rattle.oa_decision.specs.declared.refusal.Refusal.{Refusal}
-use Rattle.oa_turn.specs.Events.{is_done}
-use Rattle.oa_turn.specs.Steps.{IsQuiet, Outcome, after_outcome, changed, outcome_of, relocked, relocking}
-use Rattle.oa_decision.specs.Limits.{allowed}
-use Rattle.oa_decision.specs.States.{State}
-use Rattle.oa_decision.specs.Decided.{decided}
-use Rattle.oa_turn.specs.Steps.{outcome, reply_to}
-use Rattle.oa_keeps.specs.Keeps.{first_lost}
-use Rattle.oa_keeps.specs.declared.lost.Lost.{Lost}
-use Rattle.oa_turn.specs.Replacing.{Replacement, after_replacement, replacement_reply}
-use Rattle.oa_turn.specs.Turns.{Ordinary, Turn, Run}
+use Rattle.oa_turn.specs.promise.Events.{is_done}
+use Rattle.oa_turn.specs.Steps.{IsQuiet}
+use Rattle.oa_turn.specs.promise.Steps.{Outcome, after_outcome, changed, outcome_of, relocked, relocking, outcome}
+use Rattle.oa_turn.specs.promise.Steps.{reply_to}
+use Rattle.oa_decision.specs.promise.Limits.{allowed}
+use Rattle.oa_decision.specs.promise.States.{State}
+use Rattle.oa_decision.specs.promise.Decided.{decided}
+use Rattle.oa_compat.specs.promise.Keeps.{first_lost}
+use Rattle.oa_compat.specs.declared.lost.Incompatibility.{Incompatibility}
+use Rattle.oa_turn.specs.promise.Replacing.{Replacement, after_replacement, replacement_reply}
+use Rattle.oa_turn.specs.promise.Turns.{Ordinary, Turn, Run}
 use Rattle.oa_turn.specs.Traces.{done_bodies, done_replies, kept_bodies, kept_replies}
 
 -- a reply that is not told as done
@@ -63,7 +64,7 @@ quiet_ordinary old new body reply (inr (inr (inr s))) n = s.leaves
 quiet_replacement : (old new : State) (body : List ℕ) (reply : ReplyValue) → Replacement old body reply new → (reply.code.0 ≡ 0 → ⊥) → new ≡ old
 quiet_replacement old new body reply (inl s) n = by (first_lost s.library old.library) s.answers s.leaves
   where
-    by : (lost : Option Lost) → reply ≡ replacement_reply (tag_at body) lost → new ≡ after_replacement old s.library lost → new ≡ old
+    by : (lost : Option Incompatibility) → reply ≡ replacement_reply (tag_at body) lost → new ≡ after_replacement old s.library lost → new ≡ old
     by None told leaves = absurd (n (ap (λ (r : ReplyValue). r.code.0) told))
     by (Some lost) told leaves = leaves
 quiet_replacement old new body reply (inr (inl s)) n = s.leaves

@@ -2,19 +2,19 @@
 use Rattle.std.proofs.Common.{◌≡◌, ◌-◌, inl, inr, ℕ, ◌+◌, Bool, true, false, if◌then◌else◌, List, [], ◌∷◌, Option, Some, None, Result, Ok, Err}
 use Rattle.std.proofs.Common.{refl, sym, ap, ◌∙◌}
 use Rattle.std.specs.Prelude.{ℤ, nat_lt, ⊤, length}
-use Rattle.oa_image.specs.Tables.{reserved_bytes}
-use Rattle.oa_model.specs.Limits.{max_event_bytes}
-use Rattle.oa_array.specs.Arrays.{ArrayValue}
-use Rattle.oa_array.specs.Faults.{array_code}
+use Rattle.oa_image.specs.promise.Tables.{reserved_bytes}
+use Rattle.oa_model.specs.promise.Limits.{max_event_bytes}
+use Rattle.oa_array.specs.promise.Arrays.{ArrayValue, array_element}
+use Rattle.oa_array.specs.promise.Faults.{array_code}
 use Rattle.oa_array.specs.declared.fault.ArrayFault.{ArrayFault}
 use Rattle.oa_array.specs.declared.fault.ArrayFault.TheVariants as arrays
-use Rattle.oa_bind.specs.Bindings as bindings
-use Rattle.oa_bind.specs.Calls.{BoundCallValue}
-use Rattle.oa_bind.specs.Given.{Given}
-use Rattle.oa_bind.specs.Names.{complete, well_named}
-use Rattle.oa_bind.specs.Refusals as binding
+use Rattle.oa_bind.specs.promise.Bindings as bindings
+use Rattle.oa_bind.specs.promise.Calls.{BoundCallValue}
+use Rattle.oa_bind.specs.promise.Given.{Given, argument_for, given_argument, by_position, argument_index, new_value_id}
+use Rattle.oa_bind.specs.promise.Names.{complete, well_named, is_consistent, lacks, most, names_none}
+use Rattle.oa_bind.specs.promise.Refusals as binding
 use Rattle.oa_bind.specs.declared.fault.BindFault.{BindFault}
-use Rattle.oa_coerce.specs.Refusals.{coercion_code}
+use Rattle.oa_coerce.specs.promise.Refusals.{coercion_code}
 use Rattle.oa_coerce.specs.declared.fault.CoerceFault.{CoerceFault}
 use Rattle.oa_coerce.specs.declared.fault.CoerceFault.TheVariants as coercions
 use Rattle.oa_model.specs.declared.hresult.HResult.{HResult}
@@ -27,69 +27,65 @@ use Rattle.oa_record.specs.declared.request.Request.{Request}
 use Rattle.oa_record.specs.declared.request.Request.TheVariants as requests
 use Rattle.oa_record.specs.declared.opcode.ByCall.TheVariants as by_call
 use Rattle.oa_record.specs.declared.opcode.ByNumber.TheVariants as by_number
-use Rattle.oa_record.specs.Replies.{ReplyValue}
+use Rattle.oa_record.specs.promise.Replies.{ReplyValue}
 use Rattle.oa_table.specs.declared.event.Event.{Event}
 use Rattle.oa_table.specs.declared.event.Event.TheVariants as events
 use Rattle.oa_table.specs.declared.fault.TableFault.{TableFault}
 use Rattle.oa_table.specs.declared.fault.TableFault.TheVariants as tables
-use Rattle.oa_table.specs.Elements.{redimensioned_value}
-use Rattle.oa_table.specs.Events.{applied}
-use Rattle.oa_table.specs.Faults.{table_code}
-use Rattle.oa_table.specs.Tables.{TableValue}
+use Rattle.oa_table.specs.promise.Elements.{redimensioned_value}
+use Rattle.oa_table.specs.promise.Events.{applied}
+use Rattle.oa_table.specs.promise.Faults.{table_code}
+use Rattle.oa_table.specs.promise.Tables.{TableValue, class_in, object_at}
 use Rattle.oa_typelib.specs.declared.access.Access.{Access}
 use Rattle.oa_typelib.specs.declared.access.Access.TheVariants as accesses
 use Rattle.oa_typelib.specs.declared.access.Kind.{Kind}
 use Rattle.oa_typelib.specs.declared.access.Kind.TheVariants as forms
 use Rattle.oa_typelib.specs.declared.access.MemberFault.{MemberFault}
 use Rattle.oa_typelib.specs.declared.access.MemberFault.TheVariants as members
-use Rattle.oa_typelib.specs.MemberValues.{MemberValue}
+use Rattle.oa_typelib.specs.promise.MemberValues.{MemberValue}
 use Rattle.oa_variant.specs.declared.scalar.Scalar.{Scalar}
 use Rattle.oa_variant.specs.declared.variant.Variant.{Variant}
 use Rattle.oa_variant.specs.declared.variant.Variant.TheVariants as variants
 use Rattle.std.specs.Prelude.{not}
 use Rattle.std.specs.List.{position_from}
-use Rattle.oa_array.specs.Arrays.{array_element}
-use Rattle.oa_array.specs.Within.{in_bounds}
-use Rattle.oa_bind.specs.Given.{argument_for, at, by_position, argument_index, new_value_id}
-use Rattle.oa_bind.specs.Names.{is_consistent, lacks, most, names_none}
-use Rattle.oa_bind.specs.Refusals.{any_at, each_at}
-use Rattle.oa_coerce.specs.Answers.{coerced, coerced_scalar}
+use Rattle.oa_array.specs.promise.Within.{in_bounds}
+use Rattle.oa_bind.specs.promise.Refusals.{any_at, each_at}
+use Rattle.oa_coerce.specs.promise.Answers.{coerced, coerced_scalar}
 use Rattle.oa_idl.specs.declared.parts.Parameter.{Parameter}
-use Rattle.oa_image.specs.Sizes.{event_size}
-use Rattle.oa_table.specs.Sizes.{table_size}
-use Rattle.oa_model.specs.Codes.{disp_e_badindex, disp_e_badparamcount, disp_e_paramnotfound, disp_e_paramnotoptional}
-use Rattle.oa_model.specs.Codes.{disp_e_unknowninterface, disp_e_unknownname, e_invalidarg, e_nointerface, e_unexpected}
-use Rattle.oa_model.specs.Codes.{regdb_e_classnotreg, rpc_e_disconnected, s_ok, stg_e_mediumfull}
-use Rattle.oa_record.specs.Asks.{tag_at}
-use Rattle.oa_table.specs.Tables.{class_in, object_at}
-use Rattle.oa_checks.specs.Libraries.{class_of, selected_in}
-use Rattle.oa_typelib.specs.Members.{member_in}
-use Rattle.oa_variant.specs.Variants.{zero_value}
+use Rattle.oa_image.specs.promise.Sizes.{event_size}
+use Rattle.oa_table.specs.promise.Sizes.{table_size}
+use Rattle.oa_model.specs.promise.Codes.{disp_e_badindex, disp_e_badparamcount, disp_e_paramnotfound}
+use Rattle.oa_model.specs.promise.Codes.{disp_e_paramnotoptional, disp_e_unknowninterface, disp_e_unknownname}
+use Rattle.oa_model.specs.promise.Codes.{e_invalidarg, e_nointerface, e_unexpected, regdb_e_classnotreg}
+use Rattle.oa_model.specs.promise.Codes.{rpc_e_disconnected, s_ok, stg_e_mediumfull}
+use Rattle.oa_record.specs.promise.Asks.{tag_at}
+use Rattle.oa_sema.specs.promise.Libraries.{class_of, selected_in}
+use Rattle.oa_typelib.specs.promise.Members.{member_in}
+use Rattle.oa_variant.specs.promise.Variants.{zero_value}
 use Rattle.uuid.specs.Parts.{is_nil_bytes}
-use Rattle.oa_decision.specs.Cells.{bound_as, call_found, cell_called, member_found}
-use Rattle.oa_decision.specs.Create.{class_found, fitting, is_used_up}
-use Rattle.oa_decision.specs.Invoke.{acting}
-use Rattle.oa_decision.specs.TypeInfo.{description_of}
+use Rattle.oa_decision.specs.promise.Cells.{bound_as, call_found, cell_called, member_found}
+use Rattle.oa_decision.specs.promise.Create.{class_found, fitting, is_used_up}
+use Rattle.oa_decision.specs.promise.Invoke.{acting}
+use Rattle.oa_decision.specs.promise.TypeInfo.{description_of}
 use Rattle.oa_decision.specs.declared.decision.Decision.{Decision}
 use Rattle.oa_decision.specs.declared.decision.Decision.TheVariants.{Answer, Change, Relock}
 use Rattle.oa_decision.specs.declared.decider.cell.BoundCell.{BoundCell}
 use Rattle.oa_decision.specs.declared.refusal.Refusal.{Refusal}
-use Rattle.oa_decision.specs.ArrayCells as array_cells
-use Rattle.oa_turn.specs.Steps.{changed, outcome_of, relocked, relocking}
-use Rattle.oa_decision.specs.Interfaces.{interface_found}
-use Rattle.oa_decision.specs.Limits.{allowed, limited, within_limits}
-use Rattle.oa_decision.specs.LookUps.{ids_found}
+use Rattle.oa_decision.specs.promise.ArrayCells as array_cells
+use Rattle.oa_turn.specs.promise.Steps.{changed, outcome_of, relocked, relocking, reply_to}
+use Rattle.oa_decision.specs.promise.Interfaces.{interface_found}
+use Rattle.oa_decision.specs.promise.Limits.{allowed, limited, within_limits}
+use Rattle.oa_decision.specs.promise.LookUps.{ids_found}
 use Rattle.oa_turn.specs.OwnCodes.{is_own}
-use Rattle.oa_decision.specs.PutElement.{element_for}
-use Rattle.oa_decision.specs.Redimension.{resizing, zero_with}
-use Rattle.oa_decision.specs.Refusals.{◌>>=◌, known, unless}
-use Rattle.oa_decision.specs.States.{State}
-use Rattle.oa_decision.specs.Decided.{decided}
-use Rattle.oa_turn.specs.Steps.{reply_to}
-use Rattle.oa_keeps.specs.Keeps.{first_lost}
-use Rattle.oa_keeps.specs.declared.lost.Lost.{Lost}
-use Rattle.oa_turn.specs.Replacing.{Replacement, replacement_reply}
-use Rattle.oa_turn.specs.Turns.{Ordinary, Turn}
+use Rattle.oa_decision.specs.promise.PutElement.{element_for}
+use Rattle.oa_decision.specs.promise.Redimension.{resizing, zero_with}
+use Rattle.oa_decision.specs.promise.Refusals.{◌>>=◌, known, unless}
+use Rattle.oa_decision.specs.promise.States.{State}
+use Rattle.oa_decision.specs.promise.Decided.{decided}
+use Rattle.oa_compat.specs.promise.Keeps.{first_lost}
+use Rattle.oa_compat.specs.declared.lost.Incompatibility.{Incompatibility}
+use Rattle.oa_turn.specs.promise.Replacing.{Replacement, replacement_reply}
+use Rattle.oa_turn.specs.promise.Turns.{Ordinary, Turn}
 
 -- a refusal's code is own
 abbrev Own : {A : Type 0} → Result A Refusal → Type 0
@@ -130,7 +126,7 @@ unless_own : (code : HResult) (bad : Bool) → is_own code ≡ true → Own (unl
 unless_own code true own = own
 unless_own code false own = tt
 
-bind_unless : (code : HResult) (bad : Bool) → is_own code ≡ true → OwnBind (binding.unless code bad)
+bind_unless : (code : HResult) (bad : Bool) → is_own code ≡ true → OwnBind (binding.bind_fault_if code bad)
 bind_unless code true own = own
 bind_unless code false own = tt
 
@@ -178,14 +174,16 @@ parameter_own call place p = by (argument_for call place)
     by None = tt
     by (Some (i, argument)) = value_own (bindings.scalar_type p.value_type) i argument
 
-each_own : {X Y : Type 0} (answer : ℕ → X → Result Y BindFault) → ((place : ℕ) (x : X) → OwnBind (answer place x)) → (place : ℕ) (xs : List X) → OwnBind (each_at answer place xs)
+each_own : {X Y : Type 0} (answer : ℕ → X → Result Y BindFault) → ((place : ℕ) (x : X) → OwnBind (answer place x)) → (place : ℕ) (xs : List X)
+    → OwnBind (each_at answer place xs)
 unfolding each_at
 each_own answer own place [] = tt
-each_own answer own place (x ∷ xs) = bind_then (answer place x) _ (own place x) (λ y. bind_then (each_at answer (place + 1) xs) _ (each_own answer own (place + 1) xs) (λ ys. tt))
+each_own answer own place (x ∷ xs) =
+    bind_then (answer place x) _ (own place x) (λ y. bind_then (each_at answer (place + 1) xs) _ (each_own answer own (place + 1) xs) (λ ys. tt))
 
 new_own : (call : Given) (declared : ValueType) (kind : Kind) → OwnBind (bindings.given_new_value call declared kind)
 new_own call declared forms.Get = tt
-new_own call declared forms.Put = by i (at i call.arguments)
+new_own call declared forms.Put = by i (given_argument i call.arguments)
   where
     i : Option ℕ
     i = argument_index call.named (length call.arguments) new_value_id
@@ -198,11 +196,12 @@ new_own call declared forms.Put = by i (at i call.arguments)
 named_own : (parameters : List Parameter) (kind : Kind) (named : List ℤ) (count : ℕ) → OwnBind (well_named parameters kind named count)
 unfolding well_named
 named_own parameters kind named count = bind_then (unless_consistent) _ (bind_unless e_invalidarg (not (is_consistent kind named count)) refl)
-    (λ _. bind_then (binding.unless disp_e_badparamcount (nat_lt (most kind parameters) count)) _ (bind_unless disp_e_badparamcount (nat_lt (most kind parameters) count) refl)
+    (λ _. bind_then (binding.bind_fault_if disp_e_badparamcount (nat_lt (most kind parameters) count)) _
+    (bind_unless disp_e_badparamcount (nat_lt (most kind parameters) count) refl)
     (λ _. bind_unless_at disp_e_paramnotfound (position_from (names_none (by_position named count) (length parameters)) 0 named) refl))
   where
     unless_consistent : Result (Unit {0}) BindFault
-    unless_consistent = binding.unless e_invalidarg (not (is_consistent kind named count))
+    unless_consistent = binding.bind_fault_if e_invalidarg (not (is_consistent kind named count))
 
 complete_own : (parameters : List Parameter) (call : Given) → OwnBind (complete parameters call)
 unfolding complete
@@ -213,7 +212,8 @@ unfolding bindings.bound_call
 bound_own member kind call =
     bind_then (well_named member.parameters kind call.named (length call.arguments)) _ (named_own member.parameters kind call.named (length call.arguments))
     (λ _. bind_then (complete member.parameters call) _ (complete_own member.parameters call)
-    (λ _. bind_then (each_at (bindings.parameter_value call) 0 member.parameters) _ (each_own (bindings.parameter_value call) (parameter_own call) 0 member.parameters)
+    (λ _. bind_then (each_at (bindings.parameter_value call) 0 member.parameters) _
+    (each_own (bindings.parameter_value call) (parameter_own call) 0 member.parameters)
     (λ key. bind_then (bindings.given_new_value call member.value_type kind) _ (new_own call member.value_type kind) (λ value. tt))))
 
 call_own : (r : Result BoundCallValue BindFault) → OwnBind r → Own (call_found r)
@@ -229,21 +229,26 @@ member_own (Err members.NotImplemented) = refl
 interface_own : (state : State) (object : ℕ) (interface riid : List ℕ) → Own (interface_found state object interface riid)
 unfolding interface_found
 interface_own state object interface riid =
-    then_own (known rpc_e_disconnected (class_in (object_at object state.table))) _ (known_own rpc_e_disconnected (class_in (object_at object state.table)) refl)
-    (λ class. then_own (known e_nointerface (selected_in state.library class interface)) _ (known_own e_nointerface (selected_in state.library class interface) refl)
-    (λ found. then_own (unless disp_e_unknowninterface (not (is_nil_bytes riid))) _ (unless_own disp_e_unknowninterface (not (is_nil_bytes riid)) refl) (λ _. tt)))
+    then_own (known rpc_e_disconnected (class_in (object_at object state.table))) _
+    (known_own rpc_e_disconnected (class_in (object_at object state.table)) refl)
+    (λ class. then_own (known e_nointerface (selected_in state.library class interface)) _
+    (known_own e_nointerface (selected_in state.library class interface) refl)
+    (λ found. then_own (unless disp_e_unknowninterface (not (is_nil_bytes riid))) _ (unless_own disp_e_unknowninterface (not (is_nil_bytes riid)) refl)
+    (λ _. tt)))
 
 cell_own : (state : State) (call : Call) (access : Access) → Own (cell_called state call access)
 unfolding cell_called
 cell_own state call access =
-    then_own (interface_found state call.head.object call.head.interface call.head.riid) _ (interface_own state call.head.object call.head.interface call.head.riid)
+    then_own (interface_found state call.head.object call.head.interface call.head.riid) _
+    (interface_own state call.head.object call.head.interface call.head.riid)
     (λ interface. then_own (member_found (member_in interface call.head.dispid access)) _ (member_own (member_in interface call.head.dispid access))
     (λ found. then_own (call_found (bindings.bound_to found.0 (bound_as access found.1) (record { named = call.named; arguments = call.arguments }))) _
-    (call_own (bindings.bound_to found.0 (bound_as access found.1) (record { named = call.named; arguments = call.arguments })) (bound_own found.0 (bound_as access found.1) (record { named = call.named; arguments = call.arguments })))
+    (call_own (bindings.bound_to found.0 (bound_as access found.1) (record { named = call.named; arguments = call.arguments }))
+    (bound_own found.0 (bound_as access found.1) (record { named = call.named; arguments = call.arguments })))
     (λ bound. tt)))
 
 -- arrays in cells
-array_of_own : (v : Variant) → Own (array_cells.array_of v)
+array_of_own : (v : Variant) → Own (array_cells.array_in_value v)
 array_of_own (variants.One s) = refl
 array_of_own (variants.Array a) = tt
 
@@ -251,11 +256,13 @@ within_own : (index : List ℤ) (array : ArrayValue Scalar) → Own (array_cells
 within_own index array = unless_own (array_code arrays.BadIndex) (not (in_bounds array.bounds index)) refl
 
 element_own : (index : List ℤ) (v : Variant) → Own (array_cells.element_of index v)
-element_own index v = then_own (array_cells.array_of v) (array_cells.element_at index) (array_of_own v)
-    (λ array. then_own (array_cells.if_in_bounds index array) _ (within_own index array) (λ _. known_own (array_code arrays.BadIndex) (array_element array index) refl))
+element_own index v = then_own (array_cells.array_in_value v) (array_cells.array_element_at index) (array_of_own v)
+    (λ array. then_own (array_cells.if_in_bounds index array) _ (within_own index array)
+    (λ _. known_own (array_code arrays.BadIndex) (array_element array index) refl))
 
 type_own : (index : List ℤ) (v : Variant) → Own (array_cells.element_type_of index v)
-type_own index v = then_own (array_cells.array_of v) (array_cells.element_type_at index) (array_of_own v) (λ array. then_own (array_cells.if_in_bounds index array) _ (within_own index array) (λ _. tt))
+type_own index v = then_own (array_cells.array_in_value v) (array_cells.element_type_at index) (array_of_own v)
+    (λ array. then_own (array_cells.if_in_bounds index array) _ (within_own index array) (λ _. tt))
 
 coerced_own : (r : Result Scalar CoerceFault) → Own (array_cells.told_as_element r)
 coerced_own (Ok element) = tt
@@ -266,7 +273,7 @@ as_element_own elem (variants.One s) = coerced_own (coerced_scalar s elem)
 as_element_own elem (variants.Array a) = refl
 
 locks_own : (declared : ValueType) (o : Option Variant) → Own (array_cells.array_locks declared o)
-locks_own declared (Some v) = then_own (array_cells.array_of v) _ (array_of_own v) (λ array. tt)
+locks_own declared (Some v) = then_own (array_cells.array_in_value v) _ (array_of_own v) (λ array. tt)
 locks_own (kinds.One t) None = refl
 locks_own (kinds.Array t) None = refl
 
@@ -299,13 +306,17 @@ allowed_own bank event table code is = by (applied event table) is
 
 ids_own : (state : State) (call : GetIds) → Own (ids_found state call)
 unfolding ids_found
-ids_own state call = then_own (interface_found state call.object call.interface call.riid) _ (interface_own state call.object call.interface call.riid) (λ interface. tt)
+ids_own state call = then_own (interface_found state call.object call.interface call.riid) _ (interface_own state call.object call.interface call.riid)
+    (λ interface. tt)
 
 -- what is decided
 decided_own : (state : State) (request : Request) → OwnDecision (decided state request)
 decided_own state (requests.Create class) =
-    then_decides (class_found state class) _ (then_own (known regdb_e_classnotreg (class_of state.library class)) _ (known_own regdb_e_classnotreg (class_of state.library class) refl) (λ _. unless_own e_unexpected (is_used_up state.table) refl))
-    (λ _. then_decides (fitting (allowed state.bank (events.Create state.table.next class) state.table)) _ (fits (allowed state.bank (events.Create state.table.next class) state.table) refl) (λ _. tt))
+    then_decides (class_found state class) _
+    (then_own (known regdb_e_classnotreg (class_of state.library class)) _ (known_own regdb_e_classnotreg (class_of state.library class) refl)
+    (λ _. unless_own e_unexpected (is_used_up state.table) refl))
+    (λ _. then_decides (fitting (allowed state.bank (events.Create state.table.next class) state.table)) _
+    (fits (allowed state.bank (events.Create state.table.next class) state.table) refl) (λ _. tt))
   where
     fits : (due : Result TableValue HResult) → allowed state.bank (events.Create state.table.next class) state.table ≡ due → Own (fitting due)
     fits (Ok table) is = tt
@@ -316,18 +327,22 @@ decided_own state (requests.GetIds call) = then_decides (ids_found state call) _
     told : (known : Bool) → is_own (if known then s_ok else disp_e_unknownname) ≡ true
     told true = refl
     told false = refl
-decided_own state (requests.ByCall by_call.Invoke call) = then_decides (cell_called state call (accesses.Flags call.head.flags)) _ (cell_own state call (accesses.Flags call.head.flags)) (λ cell. acted cell cell.value)
+decided_own state (requests.ByCall by_call.Invoke call) = then_decides (cell_called state call (accesses.Flags call.head.flags)) _
+    (cell_own state call (accesses.Flags call.head.flags)) (λ cell. acted cell cell.value)
   where
     acted : (cell : BoundCell) (value : Option Variant) → OwnAnswer (acting state cell.name cell.declared value)
     acted cell None = refl
     acted cell (Some value) = tt
 decided_own state (requests.GetElement call index) = then_decides (cell_called state call accesses.Get) _ (cell_own state call accesses.Get)
-    (λ cell. then_decides (array_cells.element_in state index cell) _ (element_own index (array_cells.value_in state cell.name cell.declared)) (λ element. refl))
+    (λ cell. then_decides (array_cells.element_in state index cell) _ (element_own index (array_cells.value_in state cell.name cell.declared))
+    (λ element. refl))
 decided_own state (requests.PutElement call index value) = then_decides (cell_called state call accesses.Put) _ (cell_own state call accesses.Put)
     (λ cell. then_decides (element_for state index value cell) _
-    (then_own (array_cells.element_type_in state index cell) _ (type_own index (array_cells.value_in state cell.name cell.declared)) (λ elem. as_element_own elem value))
+    (then_own (array_cells.element_type_in state index cell) _ (type_own index (array_cells.value_in state cell.name cell.declared))
+    (λ elem. as_element_own elem value))
     (λ element. tt))
-decided_own state (requests.Redimension call bound) = then_decides (cell_called state call accesses.Put) _ (cell_own state call accesses.Put) (λ cell. by cell (array_cells.put_in state cell.name))
+decided_own state (requests.Redimension call bound) = then_decides (cell_called state call accesses.Put) _ (cell_own state call accesses.Put)
+    (λ cell. by cell (array_cells.put_in state cell.name))
   where
     by : (cell : BoundCell) (o : Option Variant) → OwnDecision (resizing cell.name cell.declared bound o)
     by cell None = then_decides (zero_with bound cell.declared) _ (refused_own (redimensioned_value bound (zero_value cell.declared))) (λ value. tt)
@@ -336,7 +351,8 @@ decided_own state (requests.ByCall by_call.Lock call) = then_decides (cell_calle
     (λ cell. then_decides (array_cells.locks_found state cell) _ (locks_own cell.declared (array_cells.put_in state cell.name)) (λ locks. tt))
 decided_own state (requests.ByCall by_call.Unlock call) = then_decides (cell_called state call accesses.Get) _ (cell_own state call accesses.Get)
     (λ cell. then_decides (array_cells.locks_found state cell) _ (locks_own cell.declared (array_cells.put_in state cell.name)) (λ locks. tt))
-decided_own state (requests.ByNumber by_number.TypeInfo index) = then_decides (known disp_e_badindex (description_of state index)) _ (known_own disp_e_badindex (description_of state index) refl) (λ description. refl)
+decided_own state (requests.ByNumber by_number.TypeInfo index) = then_decides (known disp_e_badindex (description_of state index)) _
+    (known_own disp_e_badindex (description_of state index) refl) (λ description. refl)
 decided_own state (requests.Query query) = refl
 
 outcome_own : (state : State) (due : Result Decision Refusal) → OwnDecision due → is_own (outcome_of state due).code ≡ true
@@ -362,7 +378,7 @@ ordinary_own old body reply new (inr (inl it)) = ap (λ (r : ReplyValue). is_own
 ordinary_own old body reply new (inr (inr (inl it))) = ap (λ (r : ReplyValue). is_own r.code) it.answers
 ordinary_own old body reply new (inr (inr (inr it))) = ap (λ (r : ReplyValue). is_own r.code) it.answers
 
-lost_own : (tag : ℕ) (lost : Option Lost) → is_own (replacement_reply tag lost).code ≡ true
+lost_own : (tag : ℕ) (lost : Option Incompatibility) → is_own (replacement_reply tag lost).code ≡ true
 lost_own tag None = refl
 lost_own tag (Some lost) = refl
 

@@ -1,8 +1,8 @@
 -- The turn of a body, but for a planned change.
 use Rattle.std.proofs.Common.{◌≡◌, inl, ℕ, List, Result, Ok, refl, sym, ap, ◌∙◌}
 use Rattle.oa_record.specs.declared.request.Request.{Request}
-use Rattle.oa_record.specs.Asks.{Asks, tag_at}
-use Rattle.oa_record.specs.Replies.{ReplyValue}
+use Rattle.oa_record.specs.promise.Asks.{Asks, tag_at}
+use Rattle.oa_record.specs.promise.Replies.{ReplyValue}
 use Rattle.oa_table.specs.declared.event.Event.{Event}
 use Rattle.oa_table.specs.Events.{BringsNoLocks}
 use Rattle.oa_decision.specs.declared.decision.Decision.{Decision}
@@ -10,16 +10,16 @@ use Rattle.oa_decision.specs.declared.decision.Decision.TheVariants.{Change}
 use Rattle.oa_decision.specs.declared.plan.Plan.{Plan}
 use Rattle.oa_decision.specs.declared.plan.Plan.TheVariants.{Answered, Change as AChange}
 use Rattle.oa_decision.specs.declared.refusal.Refusal.{Refusal}
-use Rattle.oa_turn.specs.Steps.{after_outcome, outcome_of}
+use Rattle.oa_turn.specs.promise.Steps.{after_outcome, outcome_of, reply_with}
 use Rattle.oa_turn.specs.Plans.{Plans, PlansChange}
-use Rattle.oa_decision.specs.States.{State}
-use Rattle.oa_decision.specs.Decided.{decided}
-use Rattle.oa_turn.specs.Steps.{reply_with}
-use Rattle.oa_turn.specs.Turns.{Ordinary}
+use Rattle.oa_decision.specs.promise.States.{State}
+use Rattle.oa_decision.specs.promise.Decided.{decided}
+use Rattle.oa_turn.specs.promise.Turns.{Ordinary}
 
 module _ (old : State) (body : List ℕ) (request : Request) (asked : Asks body request) where
   -- what is decided is done
-  steps : (due : Result Decision Refusal) (reply : ReplyValue) (new : State) → decided old request ≡ due → reply ≡ reply_with (tag_at body) (outcome_of old due) → new ≡ after_outcome old (outcome_of old due)
+  steps : (due : Result Decision Refusal) (reply : ReplyValue) (new : State) → decided old request ≡ due → reply ≡ reply_with (tag_at body) (outcome_of old due)
+      → new ≡ after_outcome old (outcome_of old due)
       → Ordinary old body reply new
   steps due reply new is told leaves = inl (record {
     request = request;
@@ -29,7 +29,8 @@ module _ (old : State) (body : List ℕ) (request : Request) (asked : Asks body 
   })
 
 -- a change that was decided
-pub change_planned : (old : State) (body : List ℕ) (request : Request) (event : Event) (fields : List ℕ) (plan : Plan) → Asks body request → decided old request ≡ Ok (Change event fields) → BringsNoLocks event
+pub change_planned : (old : State) (body : List ℕ) (request : Request) (event : Event) (fields : List ℕ) (plan : Plan) → Asks body request
+    → decided old request ≡ Ok (Change event fields) → BringsNoLocks event
     → PlansChange old (tag_at body) event fields plan → Plans old body old plan
 change_planned old body request event fields (Answered reply) asked is none told = (
   steps old body request asked (Ok (Change event fields)) reply old is (told.2 ∙ rw told.1 refl) (rw told.1 refl),

@@ -1,21 +1,21 @@
 -- Turns that make no event. A body that asks nothing is refused, or memory was wanted to read it: a turn that changes nothing.
 use Rattle.std.proofs.Common.{◌≡◌, ℕ, List, None, Ok, Err, inl, inr, refl, ◌∙◌}
-use Rattle.oa_model.specs.Codes.{e_outofmemory}
+use Rattle.oa_model.specs.promise.Codes.{e_outofmemory}
 use Rattle.oa_model.specs.declared.hresult.HResult.{HResult}
-use Rattle.oa_record.specs.Asks.{Asks, IsRequest, tag_at}
+use Rattle.oa_record.specs.promise.Asks.{Asks, tag_at}
+use Rattle.oa_record.specs.Asks.{IsRequest}
 use Rattle.oa_record.specs.Faults.{record_code, index_told}
-use Rattle.oa_record.specs.Replies.{ReplyValue}
+use Rattle.oa_record.specs.promise.Replies.{ReplyValue}
 use Rattle.oa_record.specs.declared.fault.RecordFault.{RecordFault}
 use Rattle.oa_record.specs.declared.fault.RecordFault.TheVariants.{Stub, BadVarType, Memory}
 use Rattle.oa_record.specs.declared.request.Request.{Request}
 use Rattle.oa_decision.specs.declared.decision.Decision.TheVariants.{Answer, Relock}
 use Rattle.oa_decision.specs.declared.decision.LockChange.{LockChange}
 use Rattle.oa_decision.specs.declared.refusal.Refusal.{Refusal}
-use Rattle.oa_turn.specs.Steps.{after_outcome, relocked, relocking}
-use Rattle.oa_decision.specs.States.{State}
-use Rattle.oa_decision.specs.Decided.{RequestTakesMemory, decided, refusal}
-use Rattle.oa_turn.specs.Steps.{reply_with}
-use Rattle.oa_turn.specs.Turns.{Ordinary}
+use Rattle.oa_turn.specs.promise.Steps.{after_outcome, relocked, relocking, reply_with}
+use Rattle.oa_decision.specs.promise.States.{State}
+use Rattle.oa_decision.specs.promise.Decided.{RequestTakesMemory, decided, refusal}
+use Rattle.oa_turn.specs.promise.Turns.{Ordinary}
 
 pub refused_turn : (old new : State) (body : List ℕ) (reply : ReplyValue) (fault : RecordFault) → IsRequest body (Err fault)
     → reply ≡ refusal (tag_at body) (record_code fault) (index_told fault) → new ≡ old → Ordinary old body reply new

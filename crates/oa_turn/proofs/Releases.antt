@@ -5,35 +5,36 @@ use Rattle.std.specs.Prelude.{nat_lt}
 use Rattle.std.specs.Result.{IsErrAnd, MatchResult}
 use Rattle.std.proofs.lemmas.Bool.{le-ltb}
 use Rattle.oa_array.specs.declared.fault.ArrayFault.TheVariants as arrays
-use Rattle.oa_image.specs.Sizes.{event_size}
-use Rattle.oa_image.specs.Tables.{reserved_bytes}
-use Rattle.oa_table.specs.Sizes.{table_size}
-use Rattle.oa_model.specs.Codes.{e_invalidarg, e_outofmemory, stg_e_mediumfull}
-use Rattle.oa_model.specs.Limits.{max_event_bytes}
+use Rattle.oa_image.specs.promise.Sizes.{event_size}
+use Rattle.oa_image.specs.promise.Tables.{reserved_bytes}
+use Rattle.oa_table.specs.promise.Sizes.{table_size}
+use Rattle.oa_model.specs.promise.Codes.{e_invalidarg, e_outofmemory, stg_e_mediumfull}
+use Rattle.oa_model.specs.promise.Limits.{max_event_bytes}
 use Rattle.oa_model.specs.declared.hresult.HResult.{HResult}
-use Rattle.oa_record.specs.Asks.{Asks, IsRequest, request_opcode}
+use Rattle.oa_record.specs.promise.Asks.{Asks, request_opcode}
+use Rattle.oa_record.specs.Asks.{IsRequest}
 use Rattle.oa_record.specs.Faults.{record_code}
-use Rattle.oa_record.specs.Opcodes.{opcode_at, opcode_before_memory, opcode_number}
-use Rattle.oa_record.specs.Replacement.{is_replacement}
-use Rattle.oa_record.specs.Replies.{ReplyValue}
+use Rattle.oa_record.specs.promise.Opcodes.{opcode_at, opcode_before_memory, opcode_number}
+use Rattle.oa_record.specs.promise.Replacement.{is_replacement}
+use Rattle.oa_record.specs.promise.Replies.{ReplyValue}
 use Rattle.oa_record.specs.declared.fault.RecordFault.{RecordFault}
 use Rattle.oa_record.specs.declared.fault.RecordFault.TheVariants as records
 use Rattle.oa_record.specs.declared.request.Request.{Request}
 use Rattle.oa_record.specs.declared.opcode.ByNumber.TheVariants.{Release}
 use Rattle.oa_record.specs.declared.request.Request.TheVariants.{ByNumber}
-use Rattle.oa_table.specs.Events.{applied, released_if_live}
-use Rattle.oa_table.specs.Faults.{table_code}
+use Rattle.oa_table.specs.promise.Events.{applied, released_if_live}
+use Rattle.oa_table.specs.promise.Faults.{table_code}
 use Rattle.oa_table.specs.Memory.{MayWantMemory}
-use Rattle.oa_table.specs.Objects.{any_locked}
+use Rattle.oa_table.specs.promise.Objects.{any_locked}
 use Rattle.oa_table.specs.Outcomes.{Because}
-use Rattle.oa_table.specs.Tables.{ObjectValue, TableValue, object_at}
+use Rattle.oa_table.specs.promise.Tables.{ObjectValue, TableValue, object_at}
 use Rattle.oa_table.specs.declared.event.Event.{Event}
 use Rattle.oa_table.specs.declared.event.Event.TheVariants.{Release as ARelease}
 use Rattle.oa_table.specs.declared.fault.TableFault.{TableFault}
 use Rattle.oa_table.specs.declared.fault.TableFault.TheVariants.{NoObject, WrongNumber, NotArray, Array, Memory}
-use Rattle.oa_decision.specs.Decided.{DecidingTakesMemory, decided}
-use Rattle.oa_decision.specs.Limits.{allowed, limited}
-use Rattle.oa_decision.specs.States.{State}
+use Rattle.oa_decision.specs.promise.Decided.{DecidingTakesMemory, decided}
+use Rattle.oa_decision.specs.promise.Limits.{allowed, limited}
+use Rattle.oa_decision.specs.promise.States.{State}
 use Rattle.oa_decision.specs.declared.decision.Decision.{Decision}
 use Rattle.oa_decision.specs.declared.decision.Decision.TheVariants.{Answer, Change, Relock}
 use Rattle.oa_decision.specs.declared.plan.Plan.{Plan}
@@ -68,7 +69,8 @@ refused number table fault is code = by (object_at number table) is
     by None is = omega (arith, ap number_of (ap table_code (same_fault NoObject fault is) ∙ code))
     by (Some object) is = by_lock _ (any_locked object.cells) is
 
-pub not_starved : (number : ℕ) (table : TableValue) (fault : TableFault) → (fault ≡ Memory → MayWantMemory (ARelease number) table) → Because (applied (ARelease number) table) fault
+pub not_starved : (number : ℕ) (table : TableValue) (fault : TableFault) → (fault ≡ Memory → MayWantMemory (ARelease number) table)
+    → Because (applied (ARelease number) table) fault
     → table_code fault ≡ e_outofmemory → ⊥
 not_starved number table Memory starved why code = starved refl
 not_starved number table NoObject starved why code = refused number table NoObject why code
@@ -79,7 +81,8 @@ not_starved number table (Array fault) starved why code = refused number table (
 pub not_allowed : (bank number : ℕ) (table : TableValue) (code : HResult) → allowed bank (ARelease number) table ≡ Err code → code ≡ e_outofmemory → ⊥
 not_allowed bank number table code is memory = by (applied (ARelease number) table) refl is
   where
-    by_limits : (new : TableValue) (long full : Bool) → (if long then Err e_invalidarg else if full then Err stg_e_mediumfull else Ok new) ≡ refused_with code → ⊥
+    by_limits : (new : TableValue) (long full : Bool) → (if long then Err e_invalidarg else if full then Err stg_e_mediumfull else Ok new) ≡ refused_with code
+        → ⊥
     by_limits new true full is = omega (arith, ap number_of (same_code e_invalidarg code is ∙ memory))
     by_limits new false true is = omega (arith, ap number_of (same_code stg_e_mediumfull code is ∙ memory))
     by_limits new false false is = absurd cc
@@ -130,8 +133,10 @@ module _ (body : List ℕ) (number : ℕ) (of : Asks body (ByNumber Release numb
     releases event fields is = let change = sym is ∙ ap (decided state) same in cc
 
 -- where its change was decided, it is planned or refused
-pub is_planned : (body : List ℕ) → ((body : List ℕ) (p q : Request) → Asks body p → Asks body q → p ≡ q) → (state : State) (request : Request) → Asks body request
-    → (tag : ℕ) (event : Event) (fields : List ℕ) (plan : Plan) → decided state request ≡ Ok (Change event fields) → PlansChange state tag event fields plan → PlansWithoutMemory body plan
+pub is_planned : (body : List ℕ) → ((body : List ℕ) (p q : Request) → Asks body p → Asks body q → p ≡ q) → (state : State) (request : Request)
+    → Asks body request
+    → (tag : ℕ) (event : Event) (fields : List ℕ) (plan : Plan) → decided state request ≡ Ok (Change event fields) → PlansChange state tag event fields plan
+    → PlansWithoutMemory body plan
 is_planned body one state request asked tag event fields (Answered reply) is told = λ number of code.
     let release = releases body number of one state request asked event fields is in
     not_allowed state.bank number state.table told.0 (rw release at told.1) (sym (ap (λ (r : ReplyValue). r.code) told.2) ∙ code)

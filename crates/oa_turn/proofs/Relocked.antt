@@ -5,23 +5,23 @@ use Rattle.std.specs.Prelude.{if◌then◌else◌}
 use Rattle.std.specs.BTreeMap.{is_at}
 use Rattle.std.specs.Map.{lookup, set_value}
 use Rattle.std.specs.Ordering.{nat_cmp}
-use Rattle.oa_model.specs.Limits.{max_cell_locks}
-use Rattle.oa_array.specs.Arrays.{with_locks}
+use Rattle.oa_model.specs.promise.Limits.{max_cell_locks}
+use Rattle.oa_array.specs.promise.Arrays.{with_locks}
 use Rattle.oa_array.specs.declared.fault.ArrayFault.TheVariants as arrays
-use Rattle.oa_variant.specs.Variants.{unlocked}
+use Rattle.oa_variant.specs.promise.Variants.{unlocked}
 use Rattle.oa_variant.specs.declared.variant.Variant.{Variant}
 use Rattle.oa_variant.specs.declared.variant.Variant.TheVariants.{One, Array as AnArray}
 use Rattle.oa_table.specs.declared.fault.TableFault.{TableFault}
 use Rattle.oa_table.specs.declared.fault.TableFault.TheVariants.{Array}
 use Rattle.oa_table.specs.declared.name.CellName.{CellName}
-use Rattle.oa_table.specs.Elements.{locked_value, released_value}
-use Rattle.oa_table.specs.Events.{changed_if_live, on_object, with_object}
-use Rattle.oa_table.specs.Locks.{with_lock, without_lock}
-use Rattle.oa_table.specs.Objects.{changed_if_put, with_change, with_value}
-use Rattle.oa_table.specs.Outcomes.{mapped}
-use Rattle.oa_table.specs.Places.{PlaceValue, place_cmp}
-use Rattle.oa_table.specs.Tables.{ObjectValue, TableValue, cell_at, object_at, unlocked_cell, unlocked_entry, unlocked_object}
-use Rattle.oa_table.specs.Tables.{unlocked_table}
+use Rattle.oa_table.specs.promise.Elements.{locked_value, released_value}
+use Rattle.oa_table.specs.promise.Events.{changed_if_live, on_object, with_object}
+use Rattle.oa_table.specs.promise.Locks.{with_lock, without_lock}
+use Rattle.oa_table.specs.promise.Objects.{changed_if_put, with_change, with_value}
+use Rattle.oa_table.specs.promise.Outcomes.{mapped}
+use Rattle.oa_table.specs.promise.Places.{PlaceValue, place_cmp}
+use Rattle.oa_table.specs.promise.Tables.{ObjectValue, TableValue, cell_at, object_at, unlocked_cell, unlocked_entry}
+use Rattle.oa_table.specs.promise.Tables.{unlocked_object, unlocked_table}
 
 -- a change that is not seen through g
 abbrev Unseen : {A : Type 0} → (A → A) → (A → Result A TableFault) → A → Type 0
@@ -40,7 +40,8 @@ abbrev shown : {K X : Type 0} → (X → X) → List (K × X) → List (K × X)
 shown g es = map (λ e. (e.0, g e.1)) es
 
 -- a value is set where another stood that g shows as the same
-set_unseen : {K X : Type 0} (g : X → X) (test : K → Bool) (es : List (K × X)) (old new : X) → lookup test es ≡ Some old → g new ≡ g old → shown g (set_value test es new) ≡ shown g es
+set_unseen : {K X : Type 0} (g : X → X) (test : K → Bool) (es : List (K × X)) (old new : X) → lookup test es ≡ Some old → g new ≡ g old
+    → shown g (set_value test es new) ≡ shown g es
 set_unseen g test [] old new found same = refl
 set_unseen {K} {X} g test (e ∷ es) old new found same = by (test e.0) found (set_unseen g test es old new)
   where
@@ -72,11 +73,13 @@ module _ (place : PlaceValue) (change : Variant → Result Variant TableFault) (
   object_unseen : (object : ObjectValue) → Unseen unlocked_object (with_change place change) object
   object_unseen object new is = by (cell_at place object.cells) refl is
     where
-      on : (value : Variant) → cell_at place object.cells ≡ Some value → (due : Result Variant TableFault) → change value ≡ due → mapped (with_value place object) due ≡ Ok new
+      on : (value : Variant) → cell_at place object.cells ≡ Some value → (due : Result Variant TableFault) → change value ≡ due
+          → mapped (with_value place object) due ≡ Ok new
           → unlocked_object new ≡ unlocked_object object
       on value found (Ok after) makes e =
           ap unlocked_object (sym (same_ok _ _ e))
-          ∙ ap (λ cells. record { class = object.class; cells = cells }) (set_unseen unlocked (is_at (place_cmp place)) object.cells value after found (unseen value after makes))
+          ∙ ap (λ cells. record { class = object.class; cells = cells })
+          (set_unseen unlocked (is_at (place_cmp place)) object.cells value after found (unseen value after makes))
       on value found (Err fault) makes e = absurd cc
 
       by : (o : Option Variant) → cell_at place object.cells ≡ o → changed_if_put place change object o ≡ Ok new → unlocked_object new ≡ unlocked_object object
@@ -86,14 +89,17 @@ module _ (place : PlaceValue) (change : Variant → Result Variant TableFault) (
   table_unseen : (number : ℕ) (table : TableValue) → Unseen unlocked_table (on_object number (with_change place change)) table
   table_unseen number table new is = by (object_at number table) refl is
     where
-      on : (object : ObjectValue) → object_at number table ≡ Some object → (due : Result ObjectValue TableFault) → with_change place change object ≡ due → mapped (with_object number table) due ≡ Ok new
+      on : (object : ObjectValue) → object_at number table ≡ Some object → (due : Result ObjectValue TableFault) → with_change place change object ≡ due
+          → mapped (with_object number table) due ≡ Ok new
           → unlocked_table new ≡ unlocked_table table
       on object found (Ok after) makes e =
           ap unlocked_table (sym (same_ok _ _ e))
-          ∙ ap (λ objects. record { next = table.next; objects = objects }) (set_unseen unlocked_object (is_at (nat_cmp number)) table.objects object after found (object_unseen object after makes))
+          ∙ ap (λ objects. record { next = table.next; objects = objects })
+          (set_unseen unlocked_object (is_at (nat_cmp number)) table.objects object after found (object_unseen object after makes))
       on object found (Err fault) makes e = absurd cc
 
-      by : (o : Option ObjectValue) → object_at number table ≡ o → changed_if_live number (with_change place change) table o ≡ Ok new → unlocked_table new ≡ unlocked_table table
+      by : (o : Option ObjectValue) → object_at number table ≡ o → changed_if_live number (with_change place change) table o ≡ Ok new
+          → unlocked_table new ≡ unlocked_table table
       by None found e = absurd cc
       by (Some object) found e = on object found (with_change place change object) refl e
 
@@ -113,9 +119,11 @@ unlocked_twice table = ap (λ (objects : List (ℕ × ObjectValue)). record tabl
 
     cells : (cs : List (PlaceValue × Variant)) → map unlocked_cell (map unlocked_cell cs) ≡ map unlocked_cell cs
     cells [] = refl
-    cells (c ∷ cs) = ap (λ (v : Variant). (c.0, v) ∷ map unlocked_cell (map unlocked_cell cs)) (value c.1) ∙ ap (λ (l : List (PlaceValue × Variant)). unlocked_cell c ∷ l) (cells cs)
+    cells (c ∷ cs) = ap (λ (v : Variant). (c.0, v) ∷ map unlocked_cell (map unlocked_cell cs)) (value c.1)
+        ∙ ap (λ (l : List (PlaceValue × Variant)). unlocked_cell c ∷ l) (cells cs)
 
     objects : (os : List (ℕ × ObjectValue)) → map unlocked_entry (map unlocked_entry os) ≡ map unlocked_entry os
     objects [] = refl
     objects (o ∷ os) =
-        ap (λ (cs : List (PlaceValue × Variant)). (o.0, record o.1 { cells = cs }) ∷ map unlocked_entry (map unlocked_entry os)) (cells o.1.cells) ∙ ap (λ (l : List (ℕ × ObjectValue)). unlocked_entry o ∷ l) (objects os)
+        ap (λ (cs : List (PlaceValue × Variant)). (o.0, record o.1 { cells = cs }) ∷ map unlocked_entry (map unlocked_entry os)) (cells o.1.cells)
+        ∙ ap (λ (l : List (ℕ × ObjectValue)). unlocked_entry o ∷ l) (objects os)

@@ -1,9 +1,9 @@
 -- A run goes on by one turn.
 use Rattle.std.proofs.Common.{◌≡◌, ℕ, ◌+◌, ◌<◌, List, [], ◌∷◌, ◌++◌, map, take, length, get_or, refl, subst}
 use Rattle.std.proofs.lemmas.List.{take_more, map_push}
-use Rattle.oa_record.specs.Replies.{ReplyValue}
-use Rattle.oa_decision.specs.States.{State}
-use Rattle.oa_turn.specs.Turns.{Turn, Run}
+use Rattle.oa_record.specs.promise.Replies.{ReplyValue}
+use Rattle.oa_decision.specs.promise.States.{State}
+use Rattle.oa_turn.specs.promise.Turns.{Turn, Run}
 
 pub run_more : (old mid new : State) (bodies : List (List ℕ)) (replies : List ReplyValue) (body : List ℕ) (reply : ReplyValue)
     → Run old bodies replies mid → Turn mid body reply new → Run old (bodies ++ body ∷ []) (replies ++ reply ∷ []) new

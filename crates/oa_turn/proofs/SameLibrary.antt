@@ -1,19 +1,18 @@
 -- No body but one of opcode 12 changes the library, and none changes the size of a bank.
 use Rattle.std.proofs.Common.{◌≡◌, ℕ, List, Option, Some, None, Result, Ok, Err, false, true≢false, inl, inr, refl, sym, ap, ◌∙◌}
-use Rattle.oa_idl.specs.Trees.{TreeValue}
-use Rattle.oa_record.specs.Replacement.{is_replacement}
-use Rattle.oa_record.specs.Replies.{ReplyValue}
+use Rattle.oa_idl.specs.promise.Trees.{TreeValue}
+use Rattle.oa_record.specs.promise.Replacement.{is_replacement}
+use Rattle.oa_record.specs.promise.Replies.{ReplyValue}
 use Rattle.oa_table.specs.declared.event.Event.{Event}
 use Rattle.oa_table.specs.declared.fault.TableFault.{TableFault}
-use Rattle.oa_table.specs.Tables.{TableValue}
+use Rattle.oa_table.specs.promise.Tables.{TableValue}
 use Rattle.oa_decision.specs.declared.decision.LockChange.{LockChange}
-use Rattle.oa_keeps.specs.Keeps.{first_lost}
-use Rattle.oa_keeps.specs.declared.lost.Lost.{Lost}
-use Rattle.oa_turn.specs.Steps.{Outcome, after_event, after_locks, after_outcome, with_table}
-use Rattle.oa_turn.specs.Replacing.{Replacement, after_replacement}
-use Rattle.oa_decision.specs.States.{State}
-use Rattle.oa_turn.specs.Steps.{outcome}
-use Rattle.oa_turn.specs.Turns.{Ordinary, Turn}
+use Rattle.oa_compat.specs.promise.Keeps.{first_lost}
+use Rattle.oa_compat.specs.declared.lost.Incompatibility.{Incompatibility}
+use Rattle.oa_turn.specs.promise.Steps.{Outcome, after_event, after_locks, after_outcome, with_table, outcome}
+use Rattle.oa_turn.specs.promise.Replacing.{Replacement, after_replacement}
+use Rattle.oa_decision.specs.promise.States.{State}
+use Rattle.oa_turn.specs.promise.Turns.{Ordinary, Turn}
 
 -- all but the table
 pub record Rest : Type 0 where
@@ -50,7 +49,7 @@ ordinary_library old new body reply s = ap (λ (r : Rest). r.library) (ordinary_
 pub ordinary_bank : (old new : State) (body : List ℕ) (reply : ReplyValue) → Ordinary old body reply new → new.bank ≡ old.bank
 ordinary_bank old new body reply s = ap (λ (r : Rest). r.bank) (ordinary_rest old new body reply s)
 
-replaced_bank : (old : State) (library : TreeValue) (lost : Option Lost) → (after_replacement old library lost).bank ≡ old.bank
+replaced_bank : (old : State) (library : TreeValue) (lost : Option Incompatibility) → (after_replacement old library lost).bank ≡ old.bank
 replaced_bank old library None = refl
 replaced_bank old library (Some lost) = refl
 

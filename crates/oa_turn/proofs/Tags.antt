@@ -1,12 +1,12 @@
 -- A reply has its body's tag.
 use Rattle.std.proofs.Common.{◌≡◌, ℕ, List, Option, Some, None, inl, inr, refl, ap, ◌∙◌}
-use Rattle.oa_keeps.specs.Keeps.{first_lost}
-use Rattle.oa_keeps.specs.declared.lost.Lost.{Lost}
-use Rattle.oa_record.specs.Asks.{tag_at}
-use Rattle.oa_record.specs.Replies.{ReplyValue}
-use Rattle.oa_turn.specs.Replacing.{Replacement, replacement_reply}
-use Rattle.oa_decision.specs.States.{State}
-use Rattle.oa_turn.specs.Turns.{Ordinary, Turn}
+use Rattle.oa_compat.specs.promise.Keeps.{first_lost}
+use Rattle.oa_compat.specs.declared.lost.Incompatibility.{Incompatibility}
+use Rattle.oa_record.specs.promise.Asks.{tag_at}
+use Rattle.oa_record.specs.promise.Replies.{ReplyValue}
+use Rattle.oa_turn.specs.promise.Replacing.{Replacement, replacement_reply}
+use Rattle.oa_decision.specs.promise.States.{State}
+use Rattle.oa_turn.specs.promise.Turns.{Ordinary, Turn}
 
 ordinary_tag : (old new : State) (body : List ℕ) (reply : ReplyValue) → Ordinary old body reply new → reply.tag ≡ tag_at body
 ordinary_tag old new body reply (inl s) = ap (λ (r : ReplyValue). r.tag) s.answers
@@ -14,7 +14,7 @@ ordinary_tag old new body reply (inr (inl s)) = ap (λ (r : ReplyValue). r.tag) 
 ordinary_tag old new body reply (inr (inr (inl s))) = ap (λ (r : ReplyValue). r.tag) s.answers
 ordinary_tag old new body reply (inr (inr (inr s))) = ap (λ (r : ReplyValue). r.tag) s.answers
 
-replacement_tag : (tag : ℕ) (lost : Option Lost) → (replacement_reply tag lost).tag ≡ tag
+replacement_tag : (tag : ℕ) (lost : Option Incompatibility) → (replacement_reply tag lost).tag ≡ tag
 replacement_tag tag None = refl
 replacement_tag tag (Some lost) = refl
 

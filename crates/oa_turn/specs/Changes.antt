@@ -1,15 +1,15 @@
 -- Changes of a table, and of a state. (This project's choice.)
 use Rattle.std.specs.Prelude.{◌≡◌, ◌⊎◌, ℕ, Result, Ok, Err, IsOk}
 use Rattle.oa_model.specs.declared.hresult.HResult.{HResult}
-use Rattle.oa_model.specs.Codes.{e_outofmemory}
+use Rattle.oa_model.specs.promise.Codes.{e_outofmemory}
 use Rattle.oa_table.specs.declared.event.Event.{Event}
 use Rattle.oa_table.specs.declared.fault.TableFault.{TableFault}
-use Rattle.oa_table.specs.Events.{applied}
-use Rattle.oa_table.specs.Tables.{TableValue}
+use Rattle.oa_table.specs.promise.Events.{applied}
+use Rattle.oa_table.specs.promise.Tables.{TableValue}
 use Rattle.oa_decision.specs.declared.decision.LockChange.{LockChange}
-use Rattle.oa_decision.specs.Limits.{allowed}
-use Rattle.oa_decision.specs.States.{State}
-use Rattle.oa_turn.specs.Steps.{relocked}
+use Rattle.oa_decision.specs.promise.Limits.{allowed}
+use Rattle.oa_decision.specs.promise.States.{State}
+use Rattle.oa_turn.specs.promise.Steps.{relocked}
 
 -- an event is applied to the table, or nothing changes
 abbrev pub MakesTable : {E : Type 0} → Event → TableValue → TableValue → Result (Unit {0}) E → Type 0

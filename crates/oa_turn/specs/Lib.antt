@@ -1,12 +1,12 @@
 pub mod Limits
 pub mod Steps
 pub mod Changes
-pub mod Events
-pub mod Replacing
-pub mod Turns
 pub mod Plans
 pub mod ReplacementPlans
-pub mod Beginnings
 pub mod Traces
 pub mod OwnCodes
 pub mod Locking
+pub mod ClientLocks
+pub mod Kept
+pub mod Counts
+pub mod promise

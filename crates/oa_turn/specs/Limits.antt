@@ -1,7 +1,7 @@
 -- The tables that a server can have. (This project's choice.)
 use Rattle.std.specs.Prelude.{◌≡◌, ◌+◌, ℕ, true}
-use Rattle.oa_image.specs.Tables.{FitsBank, is_numbered, reserved_bytes}
-use Rattle.oa_table.specs.Tables.{TableValue}
+use Rattle.oa_image.specs.promise.Tables.{FitsBank, is_numbered, reserved_bytes}
+use Rattle.oa_table.specs.promise.Tables.{TableValue}
 
 -- the least size in bytes of a bank's body: what must be left free, and the image of a table without objects
 abbrev pub least_bank : ℕ

@@ -1,36 +1,16 @@
--- Which lock a body changes. (This project's choice.)
-use Rattle.std.specs.Prelude.{◌≡◌, ◌⊎◌, ℕ, Bool, true, false, if◌then◌else◌, List, Option, Some, None, Result, Ok, Err}
-use Rattle.oa_record.specs.Asks.{Asks, MayStarve, request_opcode}
+-- Definitions for contracts and proofs, beside promise/Locking.
+use Rattle.std.specs.Prelude.{◌≡◌, ◌⊎◌, ℕ, Bool, false, List, Option, Some, None, Result, Ok, Err}
+use Rattle.oa_record.specs.promise.Asks.{MayStarve}
 use Rattle.oa_record.specs.Opcodes.{opcode_in}
 use Rattle.oa_record.specs.declared.opcode.Opcode.{Opcode}
-use Rattle.oa_record.specs.declared.opcode.Opcode.TheVariants as opcodes
-use Rattle.oa_record.specs.declared.opcode.ByCall.TheVariants as by_call
 use Rattle.oa_record.specs.declared.request.Request.{Request}
 use Rattle.oa_table.specs.declared.fault.TableFault.{TableFault}
-use Rattle.oa_table.specs.Tables.{TableValue}
-use Rattle.oa_decision.specs.declared.decision.Decision.{Decision}
-use Rattle.oa_decision.specs.declared.decision.Decision.TheVariants.{Answer, Change, Relock}
+use Rattle.oa_table.specs.promise.Tables.{TableValue}
 use Rattle.oa_decision.specs.declared.decision.LockChange.{LockChange}
-use Rattle.oa_decision.specs.declared.refusal.Refusal.{Refusal}
-use Rattle.oa_decision.specs.Decided.{RequestTakesMemory, decided}
-use Rattle.oa_decision.specs.States.{State}
-use Rattle.oa_turn.specs.Turns.{MayLack}
-
--- the change of a lock that is decided
-abbrev pub lock_decided : Result Decision Refusal → Option LockChange
-lock_decided (Err refusal) = None
-lock_decided (Ok (Answer code fields)) = None
-lock_decided (Ok (Change event fields)) = None
-lock_decided (Ok (Relock change fields)) = Some change
-
--- only LOCK and UNLOCK change one
-abbrev pub is_lock : Opcode → Bool
-is_lock (opcodes.ByCall by_call.Lock) = true
-is_lock (opcodes.ByCall by_call.Unlock) = true
-is_lock opcode = false
-
-abbrev pub changes_lock : Request → Bool
-changes_lock request = is_lock (request_opcode request)
+use Rattle.oa_decision.specs.promise.Decided.{RequestTakesMemory}
+use Rattle.oa_decision.specs.promise.States.{State}
+use Rattle.oa_turn.specs.promise.Turns.{MayLack}
+use Rattle.oa_turn.specs.promise.Locking.{is_lock, lock_asked_by, AsksLock}
 
 abbrev pub is_lock_in : Option Opcode → Bool
 is_lock_in None = false
@@ -39,16 +19,6 @@ is_lock_in (Some opcode) = is_lock opcode
 -- the opcode in the body is one of them
 abbrev pub asks_lock : List ℕ → Bool
 asks_lock body = is_lock_in (opcode_in body)
-
--- the change of a lock that a request asks for, if its library and its table allow the request
-abbrev pub lock_asked_by : State → Request → Option LockChange
-lock_asked_by state request = if changes_lock request then lock_decided (decided state request) else None
-
--- the same for a body
-pub record AsksLock (state : State) (body : List ℕ) (change : LockChange) : Type 0 where
-  pub request : Request
-  pub asked : Asks body request
-  pub is : lock_asked_by state request ≡ Some change
 
 -- what is found of it; or memory was wanted, as the body's turn may want it
 abbrev pub FindsLock : {E : Type 0} → State → List ℕ → Result (Option LockChange) E → Type 0

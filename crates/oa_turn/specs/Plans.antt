@@ -1,29 +1,29 @@
--- What is left to do in a turn after its body was read. (This project's choice.)
+-- Definitions for contracts and proofs, beside promise/Plans.
 use Rattle.std.specs.Prelude.{◌≡◌, List, [], ℕ, None, Ok, Err, IsOk, ⊤}
-use Rattle.oa_model.specs.Codes.{e_outofmemory}
+use Rattle.oa_model.specs.promise.Codes.{e_outofmemory}
 use Rattle.oa_model.specs.declared.hresult.HResult.{HResult}
 use Rattle.oa_record.specs.declared.request.Request.{Request}
 use Rattle.oa_record.specs.declared.request.Call.{Call}
 use Rattle.oa_record.specs.declared.opcode.ByCall.TheVariants.{Invoke}
 use Rattle.oa_record.specs.declared.opcode.ByNumber.TheVariants.{Release}
 use Rattle.oa_record.specs.declared.request.Request.TheVariants.{ByCall, ByNumber}
-use Rattle.oa_record.specs.Replies.{ReplyValue}
-use Rattle.oa_record.specs.Asks.{Asks, tag_at}
+use Rattle.oa_record.specs.promise.Replies.{ReplyValue}
+use Rattle.oa_record.specs.promise.Asks.{Asks, tag_at}
 use Rattle.oa_table.specs.declared.event.Event.{Event}
 use Rattle.oa_table.specs.Events.{BringsNoLocks}
-use Rattle.oa_table.specs.Tables.{unlocked_table}
 use Rattle.oa_decision.specs.declared.decision.Decision.TheVariants as decisions
 use Rattle.oa_decision.specs.declared.plan.Plan.{Plan}
 use Rattle.oa_decision.specs.declared.plan.Plan.TheVariants.{Answered, Change}
 use Rattle.oa_decision.specs.declared.plan.Planned.{Planned}
 use Rattle.oa_decision.specs.declared.plan.ValuePlan.{ValuePlan}
 use Rattle.oa_decision.specs.declared.plan.ValuePut.{ValuePut}
-use Rattle.oa_decision.specs.Limits.{allowed}
+use Rattle.oa_decision.specs.promise.Limits.{allowed}
 use Rattle.oa_decision.specs.ValuePlans.{PlansValue, put_event}
-use Rattle.oa_turn.specs.Events.{HasEvent}
-use Rattle.oa_decision.specs.States.{State}
-use Rattle.oa_decision.specs.Decided.{decided, refusal}
-use Rattle.oa_turn.specs.Turns.{Ordinary}
+use Rattle.oa_turn.specs.promise.Events.{HasEvent}
+use Rattle.oa_decision.specs.promise.States.{State}
+use Rattle.oa_decision.specs.promise.Decided.{decided, refusal}
+use Rattle.oa_turn.specs.promise.Turns.{Ordinary}
+use Rattle.oa_turn.specs.promise.Plans.{HoldsSame}
 
 -- the body is a call, and this is the plan for it
 abbrev pub PlansCall : State → List ℕ → ValuePlan → Type 0
@@ -45,11 +45,6 @@ pub record IsDrafted (state : State) (body : List ℕ) (planned : Planned) : Typ
 pub record IsPlanned (state : State) (body : List ℕ) (planned : Planned) : Type 0 where
   pub drafted : IsDrafted state body planned
   pub allows : IsOk (allowed state.bank planned.event state.table)
-
--- the library of a state, and what images contain of it, are the same
-pub record HoldsSame (old new : State) : Type 0 where
-  pub table : unlocked_table new.table ≡ unlocked_table old.table
-  pub library : new.library ≡ old.library
 
 -- the turn was taken, and changed nothing in images; or a change was decided
 abbrev pub Drafts : State → List ℕ → State → Plan → Type 0

@@ -1,6 +1,6 @@
 -- A run without turns that were not answered with S_OK. (This project's choice.)
 use Rattle.std.specs.Prelude.{ℕ, ◌==◌, ◌&&◌, not, Bool, if◌then◌else◌, List, [], ◌∷◌}
-use Rattle.oa_record.specs.Replies.{ReplyValue}
+use Rattle.oa_record.specs.promise.Replies.{ReplyValue}
 
 -- the bodies that were answered with S_OK
 abbrev pub done_bodies : List (List ℕ) → List ReplyValue → List (List ℕ)

@@ -2,26 +2,26 @@
 ghost use Rattle.std.specs.Prelude.{◌≡◌, ◌≤◌, List, ℕ, [], false, map, IsOk, IfOk, IfSome, OnErr};
 ghost use Rattle.oa_decision.specs.Decisions.{ChangesNoLocks, Decides};
 ghost use Rattle.oa_turn.specs.Changes.{MakesChange};
-ghost use Rattle.oa_turn.specs.Steps.{after_outcome, relocked, relocking};
+ghost use Rattle.oa_turn.specs.promise.Steps.{after_outcome, relocked, relocking, reply_with};
 ghost use Rattle.oa_turn.specs.Limits.{IsSoundTable, least_bank};
-ghost use Rattle.oa_decision.specs.Limits.{allowed};
+ghost use Rattle.oa_decision.specs.promise.Limits.{allowed};
 ghost use Rattle.oa_decision.specs.ValuePlans.{put_event};
-ghost use Rattle.oa_turn.specs.Plans.{Drafts, HasNoEvent, HoldsSame, IsDrafted, Plans, PlansCall, PlansChange, put_planned};
+ghost use Rattle.oa_turn.specs.Plans.{Drafts, HasNoEvent, IsDrafted, Plans, PlansCall, PlansChange, put_planned};
 ghost use Rattle.oa_turn.specs.Plans.{PlansWithoutMemory, ReleasesWithoutMemory};
-ghost use Rattle.oa_model.specs.Codes.{e_outofmemory};
-ghost use Rattle.oa_decision.specs.Decided.{DecidingTakesMemory, decided};
-ghost use Rattle.oa_record.specs.Replacement.{is_replacement};
-ghost use Rattle.oa_turn.specs.Steps.{reply_with};
-ghost use Rattle.oa_turn.specs.Turns.{Ordinary, Run, Turn};
+ghost use Rattle.oa_turn.specs.promise.Plans.{HoldsSame};
+ghost use Rattle.oa_model.specs.promise.Codes.{e_outofmemory};
+ghost use Rattle.oa_decision.specs.promise.Decided.{DecidingTakesMemory, decided};
+ghost use Rattle.oa_record.specs.promise.Replacement.{is_replacement};
+ghost use Rattle.oa_turn.specs.promise.Turns.{Ordinary, Run, Turn};
 ghost use Rattle.oa_table.specs.Events.{BringsNoLocks};
 ghost use Rattle.oa_table.specs.declared.event.Event.TheVariants.{Put, Release as ARelease};
 ghost use Rattle.oa_table.specs.Memory.{MayWantMemory};
 ghost use Rattle.oa_table.specs.Tables.{first_table};
 
-use crate::changes::{apply, change, change_locks, put_again};
+use crate::changes::{apply, change, change_locks, overwrite};
 use oa_decision::{
-    Decider, Decision, Fields, LockChange, Plan, Planned, Refusal, Undecided, ValuePlan, ValuePut,
-    disallowed,
+    DecideError, Decider, Decision, Fields, LockChange, Plan, Planned, Refusal, ValuePlan,
+    ValuePut, limit_violation,
 };
 use oa_image::SizedEvent;
 use oa_model::HResult;
@@ -36,8 +36,9 @@ use std::marker::Model;
 pub(crate) mod locking;
 pub(crate) mod replacement;
 
-/// The state on which replies depend: a library, a table of its objects, and how large the table may grow.
-pub struct Host {
+/// The state on which replies depend: a library, a table of its objects, and how large the table
+/// may grow.
+pub struct Machine {
     alloc: Global,
     /// The size in bytes of a bank's body, into which the table must fit.
     bank: u32,
@@ -46,9 +47,9 @@ pub struct Host {
 }
 
 // A `Drop` of its own, so that a function that holds a host, or a server, drops it in one step.
-impl Drop for Host {
+impl Drop for Machine {
     fn drop(self) {
-        let Host {
+        let Machine {
             alloc: _alloc,
             bank: _bank,
             library: _library,
@@ -57,8 +58,8 @@ impl Drop for Host {
     }
 }
 
-impl Model for Host {
-    ghost use Rattle.oa_decision.specs.States.{State};
+impl Model for Machine {
+    ghost use Rattle.oa_decision.specs.promise.States.{State};
     ghost use Rattle.oa_turn.specs.Limits.{IsSoundTable};
 
     ghost Value = { State };
@@ -68,13 +69,14 @@ impl Model for Host {
     ghost invariant = { λ s. IsSoundTable s.bank s.table };
 }
 
-impl Host {
-    /// Makes a host with a library and the first table, with the limits of a new store with banks of this size.
-    pub fn new(alloc: Global, bank: u32, library: Library) -> Host
+impl Machine {
+    /// Makes a host of `library` with the first table, with the limits of a new store with banks of
+    /// `bank` bytes.
+    pub fn new(alloc: Global, bank: u32, library: Library) -> Machine
         requires { least_bank ≤ bank }
         ensures { result ≡ record { bank = bank; library = library; table = first_table } }
     {
-        Host {
+        Machine {
             alloc,
             bank,
             library,
@@ -82,12 +84,12 @@ impl Host {
         }
     }
 
-    /// Makes a host with a library and an existing table, with the limits of banks of this size.
-    pub fn over(alloc: Global, bank: u32, library: Library, table: Table) -> Host
+    /// Makes a host of `library` with an existing table, with the limits of banks of `bank` bytes.
+    pub fn over(alloc: Global, bank: u32, library: Library, table: Table) -> Machine
         requires { IsSoundTable bank table }
         ensures { result ≡ record { bank = bank; library = library; table = table } }
     {
-        Host {
+        Machine {
             alloc,
             bank,
             library,
@@ -95,8 +97,8 @@ impl Host {
         }
     }
 
-    /// Answers one request. If an allocation fails, the reply is E_OUTOFMEMORY, and nothing changes; a RELEASE never
-    /// fails so.
+    /// Returns the reply to the request in `body`. If an allocation fails, the reply is
+    /// E_OUTOFMEMORY, and nothing changes; a RELEASE never fails so.
     pub fn turn(&mut self, body: &[u8]) -> Reply
         ensures turn { Turn self.old body.now result self.new }
         ensures bank { self.new.bank ≡ self.old.bank }
@@ -109,11 +111,12 @@ impl Host {
         self.ordinary_turn(body)
     }
 
-    /// Answers one request with another opcode than 12. It tries the fast path for calls with no more than a new
-    /// value first, since most requests are such calls.
+    /// Returns the reply to a request with another opcode than 12. It tries the fast path for calls
+    /// with no more than a new value first, since most requests are such calls. If an allocation
+    /// fails, the reply is E_OUTOFMEMORY, and nothing changes.
     ///
-    /// The fast path (`value_plan`, `put_value`) and the general one (`other_turn`) part here; both meet this
-    /// contract.
+    /// The fast path (`value_plan`, `put_value`) and the general one (`other_turn`) part here; both
+    /// meet this contract.
     pub fn ordinary_turn(&mut self, body: &[u8]) -> Reply
         requires plain { is_replacement body.now ≡ false }
         ensures turn { Turn self.old body.now result self.new }
@@ -128,7 +131,8 @@ impl Host {
         }
     }
 
-    /// Plans a call with no more than a new value. None, without a further meaning, for any other body.
+    /// Plans a call with no more than a new value. None, without a further meaning, for any other
+    /// body.
     fn value_plan(&self, body: &[u8]) -> Option<ValuePlan>
         ensures { IfSome result (PlansCall self.now body.now) }
     {
@@ -136,8 +140,8 @@ impl Host {
         self.decider().plan_value(tag_of(body), &head, value)
     }
 
-    /// Sets a cell, and returns the reply. Most puts overwrite an existing value, far from the limits: no event is
-    /// made for these.
+    /// Sets a cell, and returns the reply. Most puts overwrite an existing value, far from the
+    /// limits: no event is made for these.
     fn put_value(&mut self, tag: u32, put: ValuePut) -> Reply
         requires { BringsNoLocks (put_event put) }
         ensures { (body : List ℕ) → IsDrafted self.old body (put_planned tag put) → Ordinary self.old body result self.new }
@@ -150,14 +154,14 @@ impl Host {
         } = put;
         let place = Place::new(interface, dispid, Vec::new(self.alloc));
         let name = CellName { object, place };
-        match put_again(self.bank, &mut self.table, &name, value) {
+        match overwrite(self.bank, &mut self.table, &name, value) {
             Ok(()) => Reply::bare(self.alloc, tag, HResult::S_OK, None),
             Err(value) => self.put_any(tag, name, value),
         }
     }
 
-    /// Sets a cell by an event. A function of its own, so that a put over an existing value reserves no space for an
-    /// event.
+    /// Sets a cell by an event. A function of its own, so that a put over an existing value
+    /// reserves no space for an event.
     #[inline(never)]
     fn put_any(&mut self, tag: u32, name: CellName, value: Variant) -> Reply
         requires { BringsNoLocks (Put name value) }
@@ -169,7 +173,7 @@ impl Host {
         self.make(Planned { tag, event, fields })
     }
 
-    /// Answers one request with another opcode than 12, by the general path.
+    /// Returns the reply to a request with another opcode than 12, by the general path.
     #[inline(never)]
     fn other_turn(&mut self, body: &[u8]) -> Reply
         ensures turn { Ordinary self.old body.now result self.new }
@@ -182,7 +186,9 @@ impl Host {
         }
     }
 
-    /// Answers one request with another opcode than 12, except for the change of the table: that is planned.
+    /// Answers one request with another opcode than 12, except for the change of the table. If it
+    /// asks for one, returns the change, which is allowed and has not been made; otherwise the
+    /// reply.
     pub fn plan(&mut self, body: &[u8]) -> Plan
         ensures plans { Plans self.old body.now self.new result }
         ensures quiet { HasNoEvent self.old body.now result }
@@ -237,8 +243,8 @@ impl Host {
             Ok(Decision::Relock { change, fields }) => {
                 Plan::Answered(self.relock(tag, change, fields))
             }
-            Err(Undecided::Refused(refusal)) => Plan::Answered(self.refuse(tag, refusal)),
-            Err(Undecided::OutOfMemory) => {
+            Err(DecideError::Refused(refusal)) => Plan::Answered(self.refuse(tag, refusal)),
+            Err(DecideError::OutOfMemory) => {
                 Plan::Answered(Reply::bare(self.alloc, tag, HResult::E_OUTOFMEMORY, None))
             }
         }
@@ -248,7 +254,7 @@ impl Host {
     fn plan_change(&self, tag: u32, event: SizedEvent, fields: Fields) -> Plan
         ensures { PlansChange self.now tag event fields result }
     {
-        match disallowed(self.bank, &self.table, &event) {
+        match limit_violation(self.bank, &self.table, &event) {
             Some(code) => Plan::Answered(Reply::bare(self.alloc, tag, code, None)),
             None => Plan::Change(Planned { tag, event, fields }),
         }
@@ -268,8 +274,8 @@ impl Host {
         Reply::new(tag, HResult::S_OK, None, fields.into_vec())
     }
 
-    /// Applies an event that was planned, or another that is allowed. Err: an allocation failed, which never happens
-    /// for a `Release`, and nothing changed.
+    /// Applies an event that was planned, or another that is allowed. Err: an allocation failed,
+    /// which never happens for a `Release`, and nothing changed.
     pub fn apply(&mut self, event: Event) -> Result<(), AllocError>
         requires unlocked { BringsNoLocks event }
         requires allowed { IsOk (allowed self.old.bank event self.old.table) }
@@ -279,7 +285,8 @@ impl Host {
         apply(&mut self.table, event)
     }
 
-    /// Answers requests one after another. Err: an allocation failed before anything was done.
+    /// Returns the replies to `bodies`, each a request, in order. Err: an allocation failed before
+    /// anything was done.
     pub fn run(&mut self, bodies: &[Vec<u8>]) -> Result<Vec<Reply>, AllocError>
         ensures run { IfOk result (λ replies. Run self.old (map (λ b. b.items) bodies.now) replies.items self.new) }
         ensures bank { self.new.bank ≡ self.old.bank }
@@ -308,8 +315,8 @@ impl Host {
         self.library = library;
     }
 
-    /// Decides a request. It only reads.
-    fn decide(&self, request: Request) -> Result<Decision, Undecided>
+    /// Decides a request. It only reads. Errors are those of `Decider`.
+    fn decide(&self, request: Request) -> Result<Decision, DecideError>
         ensures decided { Decides (decided self.now request) (DecidingTakesMemory self.now request) result }
         ensures unlocked { IfOk result ChangesNoLocks }
     {
@@ -323,8 +330,8 @@ impl Host {
         Decider::new(self.alloc, self.bank, &self.library, &self.table)
     }
 
-    /// Changes the locks of an array, and replies with these fields, or with why the table refuses it. Allocates
-    /// nothing.
+    /// Changes the locks of an array, and replies with these fields, or with why the table refuses
+    /// it. Allocates nothing.
     fn relock(&mut self, tag: u32, change: LockChange, fields: Fields) -> Reply
         ensures reply { result ≡ reply_with tag (relocking change fields (relocked change self.old.table)) }
         ensures state { self.new ≡ after_outcome self.old (relocking change fields (relocked change self.old.table)) }

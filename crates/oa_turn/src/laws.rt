@@ -1,28 +1,28 @@
 //! Theorems about the definitions of turns.
 ghost use Rattle.std.specs.Prelude.{◌≡◌, ◌↔◌, ℕ, true, Bool, List, None, Ok};
 ghost use Rattle.oa_record.specs.declared.request.Request.{Request as ARequest};
-ghost use Rattle.oa_record.specs.Replies.{ReplyValue};
-ghost use Rattle.oa_fits.specs.Fits.{fits};
+ghost use Rattle.oa_record.specs.promise.Replies.{ReplyValue};
+ghost use Rattle.oa_compat.specs.promise.Fits.{fits};
 ghost use Rattle.oa_turn.specs.Steps.{IsQuiet};
 ghost use Rattle.oa_turn.specs.OwnCodes.{is_own};
-ghost use Rattle.oa_decision.specs.States.{State};
-ghost use Rattle.oa_turn.specs.Steps.{outcome, reply_to};
+ghost use Rattle.oa_decision.specs.promise.States.{State};
+ghost use Rattle.oa_turn.specs.promise.Steps.{outcome, reply_to};
 ghost use Rattle.oa_turn.specs.Traces.{done_bodies, done_replies, kept_bodies, kept_replies};
-ghost use Rattle.oa_turn.specs.Turns.{Run, Turn};
-ghost use Rattle.oa_idl.specs.Trees.{TreeValue};
-ghost use Rattle.oa_table.specs.Locks.{with_lock, without_lock};
-ghost use Rattle.oa_table.specs.Tables.{TableValue, unlocked_table};
+ghost use Rattle.oa_turn.specs.promise.Turns.{Run, Turn};
+ghost use Rattle.oa_idl.specs.promise.Trees.{TreeValue};
+ghost use Rattle.oa_table.specs.promise.Locks.{with_lock, without_lock};
+ghost use Rattle.oa_table.specs.promise.Tables.{TableValue, unlocked_table};
 ghost use Rattle.oa_table.specs.declared.name.CellName.{CellName as AName};
-ghost use Rattle.oa_typelib.specs.Checked.{IsChecked};
-ghost use Rattle.oa_keeps.specs.Keeps.{KeepsLibrary, first_lost};
+ghost use Rattle.oa_typelib.specs.promise.Checked.{IsChecked};
+ghost use Rattle.oa_compat.specs.promise.Keeps.{KeepsLibrary, first_lost};
 
-use oa_fits::laws::changes_that_fit;
+use oa_compat::laws::changes_that_fit;
 use oa_idl::laws::one_tree;
 use oa_record::laws::one_request;
 
-/// A request that is answered with another code than S_OK leaves no trace: it makes no event and changes no lock, so
-/// its turn does not change the state. The other turns of a run alone are a run with the same replies, also together
-/// with any of the turns that leave no trace.
+/// A request that is answered with another code than S_OK leaves no trace. It makes no event and
+/// changes no lock, so its turn does not change the state. The other turns of a run alone are a run
+/// with the same replies. The same is true if some of the turns that leave no trace stay in it.
 pub fn no_trace()
     ensures outcome { (state : State) (tag : ℕ) (request : ARequest) → ((reply_to state tag request).code.0 ≡ 0 → ⊥)
         → IsQuiet (outcome state request) }
@@ -33,17 +33,18 @@ pub fn no_trace()
         → Run old bodies replies new → Run old (kept_bodies choices bodies replies) (kept_replies choices replies) new }
 {}
 
-/// A table that fits a library fits each library that is compatible with it. Locks do not matter for that. A library
-/// may replace another exactly if it is compatible with it.
-pub fn kept_fits()
+/// A table that fits a library fits each library that is compatible with it. Locks do not matter
+/// for that. A library may replace another exactly if it is compatible with it.
+pub fn kept_library_fits()
     ensures fits { (new old : TreeValue) → IsChecked new → KeepsLibrary new old → (table : TableValue) → fits old table ≡ true
         → fits new table ≡ true }
     ensures keeps { (new old : TreeValue) → IsChecked new → (first_lost new old ≡ None) ↔ KeepsLibrary new old }
 {
-    oa_fits::laws::kept_fits();
+    oa_compat::laws::kept_fits();
 }
 
-/// If a table fits its library, it still does after a turn and after a run, for the library of then.
+/// If a table fits its library, it still does after a turn and after a run, for the library of
+/// then.
 pub fn fits_stays()
     ensures turn { (old new : State) (body : List ℕ) (reply : ReplyValue) → IsChecked old.library
         → fits old.library old.table ≡ true → Turn old body reply new → IsChecked new.library × (fits new.library new.table ≡ true) }

@@ -14,7 +14,8 @@ use Rattle.oa_typelib.specs.Groups.{with_place, places_in}
 use Rattle.oa_typelib.proofs.Grouping.{later}
 
 -- ---- the group of a key
-mapped_places : {V : Type 0} (f : V → List ℕ) (o : Option ℕ) (vs : List V) → places_in o (map f vs) ≡ unwrap_or (option_map f (option_and_then (slice_get vs) o)) []
+mapped_places : {V : Type 0} (f : V → List ℕ) (o : Option ℕ) (vs : List V)
+    → places_in o (map f vs) ≡ unwrap_or (option_map f (option_and_then (slice_get vs) o)) []
 mapped_places f None vs = refl
 mapped_places f (Some n) vs = ap (λ o. unwrap_or o []) (slice_get-map f vs n)
 
@@ -33,27 +34,36 @@ there t (e ∷ es) v h = by (t e.0) h (λ r. there t es v r)
     by true h rest = refl
     by false h rest = rest h
 
-group_grows : {A V : Type 0} (f : V → List ℕ) (t : A → Bool) (n : ℕ) (es : List (A × V)) (v w : V) → lookup t es ≡ Some v → f w ≡ f v ++ n ∷ [] → map f (values_of (set_value t es w)) ≡ with_place (position_or_len t (keys_of es)) n (map f (values_of es))
+group_grows : {A V : Type 0} (f : V → List ℕ) (t : A → Bool) (n : ℕ) (es : List (A × V)) (v w : V) → lookup t es ≡ Some v → f w ≡ f v ++ n ∷ []
+    → map f (values_of (set_value t es w)) ≡ with_place (position_or_len t (keys_of es)) n (map f (values_of es))
 unfolding with_place
 group_grows f t n [] v w h is = absurd (cc)
 group_grows f t n (e ∷ es) v w h is = by (t e.0) h (λ r. group_grows f t n es v w r is)
   where
-    by : (b : Bool) → cond b (Some e.1) (lookup t es) ≡ Some v → (lookup t es ≡ Some v → map f (values_of (set_value t es w)) ≡ with_place (position_or_len t (keys_of es)) n (map f (values_of es))) → map f (values_of (cond b ((e.0, w) ∷ es) (e ∷ set_value t es w))) ≡ with_place (cond (not b) (1 + position_or_len t (keys_of es)) 0) n (f e.1 ∷ map f (values_of es))
+    by : (b : Bool) → cond b (Some e.1) (lookup t es) ≡ Some v
+        → (lookup t es ≡ Some v → map f (values_of (set_value t es w)) ≡ with_place (position_or_len t (keys_of es)) n (map f (values_of es)))
+        → map f (values_of (cond b ((e.0, w) ∷ es) (e ∷ set_value t es w))) ≡ with_place (cond (not b) (1 + position_or_len t (keys_of es)) 0) n
+        (f e.1 ∷ map f (values_of es))
     by true h rest = let v_is : v ≡ e.1 = cc in ap (λ ps. ps ∷ map f (values_of es)) (is ∙ ap (λ x. f x ++ n ∷ []) v_is)
     by false h rest = ap (λ pss. f e.1 ∷ pss) (rest h) ∙ sym (later (position_or_len t (keys_of es)) n (f e.1) (map f (values_of es)))
 
-group_starts : {A V : Type 0} (f : V → List ℕ) (eq : A → A → Bool) (k : A) (n : ℕ) (es : List (A × V)) (w : V) → lookup (eq k) es ≡ None → f w ≡ n ∷ [] → map f (values_of (insert_entry eq es k w)) ≡ with_place (position_or_len (eq k) (keys_of es)) n (map f (values_of es))
+group_starts : {A V : Type 0} (f : V → List ℕ) (eq : A → A → Bool) (k : A) (n : ℕ) (es : List (A × V)) (w : V) → lookup (eq k) es ≡ None → f w ≡ n ∷ []
+    → map f (values_of (insert_entry eq es k w)) ≡ with_place (position_or_len (eq k) (keys_of es)) n (map f (values_of es))
 unfolding with_place
 group_starts f eq k n [] w h is = ap (λ ps. ps ∷ []) is
 group_starts f eq k n (e ∷ es) w h is = by (eq k e.0) h (λ r. group_starts f eq k n es w r is)
   where
-    by : (b : Bool) → cond b (Some e.1) (lookup (eq k) es) ≡ None → (lookup (eq k) es ≡ None → map f (values_of (insert_entry eq es k w)) ≡ with_place (position_or_len (eq k) (keys_of es)) n (map f (values_of es))) → map f (values_of (if b then (e.0, w) ∷ es else e ∷ insert_entry eq es k w)) ≡ with_place (cond (not b) (1 + position_or_len (eq k) (keys_of es)) 0) n (f e.1 ∷ map f (values_of es))
+    by : (b : Bool) → cond b (Some e.1) (lookup (eq k) es) ≡ None
+        → (lookup (eq k) es ≡ None → map f (values_of (insert_entry eq es k w)) ≡ with_place (position_or_len (eq k) (keys_of es)) n (map f (values_of es)))
+        → map f (values_of (if b then (e.0, w) ∷ es else e ∷ insert_entry eq es k w)) ≡ with_place (cond (not b) (1 + position_or_len (eq k) (keys_of es)) 0) n
+        (f e.1 ∷ map f (values_of es))
     by true h rest = absurd (cc)
     by false h rest = ap (λ pss. f e.1 ∷ pss) (rest h) ∙ sym (later (position_or_len (eq k) (keys_of es)) n (f e.1) (map f (values_of es)))
 
 -- ---- The result of a look-up, and the effect of an addition.
 module _ {K V : Type 0} (f : V → List ℕ) (es : List (K × V)) where
-  pub found_places : (t : K → Bool) (o : Option V) → o ≡ lookup t es → unwrap_or (option_map f o) [] ≡ places_in (position t (keys_of es)) (map f (values_of es))
+  pub found_places : (t : K → Bool) (o : Option V) → o ≡ lookup t es → unwrap_or (option_map f o) [] ≡ places_in (position t (keys_of es))
+      (map f (values_of es))
   found_places t o is = ap (λ r. unwrap_or (option_map f r) []) (is ∙ sym (by_place t es)) ∙ sym (mapped_places f (position t (keys_of es)) (values_of es))
 
   pub own_places : (t : K → Bool) (v : V) → lookup t es ≡ Some v → f v ≡ places_in (position t (keys_of es)) (map f (values_of es))
@@ -76,5 +86,6 @@ module _ {K V : Type 0} (f : V → List ℕ) (es : List (K × V)) where
       pub key_new : keys_of new ≡ insert_key eq (keys_of es) k
       key_new = ap keys_of is ∙ keys_insert_entry eq es k w
 
-      pub place_new : (n : ℕ) → None ≡ lookup (eq k) es → f w ≡ n ∷ [] → map f (values_of new) ≡ with_place (position_or_len (eq k) (keys_of es)) n (map f (values_of es))
+      pub place_new : (n : ℕ) → None ≡ lookup (eq k) es → f w ≡ n ∷ [] → map f (values_of new) ≡ with_place (position_or_len (eq k) (keys_of es)) n
+          (map f (values_of es))
       place_new n none one = ap (λ xs. map f (values_of xs)) is ∙ group_starts f eq k n es w (sym none) one

@@ -6,19 +6,20 @@ use Rattle.std.specs.List.{AllByRecursion, filter}
 use Rattle.std.specs.Option.{option_map, option_and_then, option_or}
 use Rattle.std.specs.Ordering.{int_eq}
 use Rattle.oa_model.specs.declared.var_type.ValueType.{ValueType}
-use Rattle.oa_model.specs.Limits.{max_parameters}
+use Rattle.oa_model.specs.promise.Limits.{max_parameters}
 use Rattle.oa_variant.specs.Variants.{HasZero}
-use Rattle.oa_idl.specs.Values.{InterfaceValue}
+use Rattle.oa_idl.specs.promise.Values.{InterfaceValue}
 use Rattle.oa_idl.specs.declared.parts.Parameter.{Parameter}
 use Rattle.oa_idl.specs.declared.items.Item.{Item}
 use Rattle.oa_idl.specs.declared.items.Item.TheVariants.{Interface, Coclass}
 use Rattle.oa_typelib.specs.Bindable.{IsBindable, IsSoundDeclaration, AreSound, IsSoundItem}
-use Rattle.oa_checks.specs.DeclarationValues.{DeclarationValue}
-use Rattle.oa_checks.specs.Declarations.{declarations, is_put, own_parameters, type_of_value}
-use Rattle.oa_checks.specs.Libraries.{as_interface}
-use Rattle.oa_typelib.specs.Members.{forms_with, form_for, main_form, property_of, kind_asked, has_form, is_method, method_fault}
-use Rattle.oa_typelib.specs.Members.{if_formed, property_answer, answer, lets, member_in, property_in, property_with}
-use Rattle.oa_typelib.specs.MemberValues.{MemberValue}
+use Rattle.oa_sema.specs.promise.DeclarationValues.{DeclarationValue}
+use Rattle.oa_sema.specs.promise.Declarations.{declarations, is_put, own_parameters, type_of_value}
+use Rattle.oa_sema.specs.promise.Libraries.{as_interface}
+use Rattle.oa_typelib.specs.promise.Members.{forms_with, form_for, main_form, property_of, kind_asked, has_form}
+use Rattle.oa_typelib.specs.promise.Members.{is_method, method_fault, if_formed, property_answer, answer, lets}
+use Rattle.oa_typelib.specs.promise.Members.{member_in, property_in, property_with}
+use Rattle.oa_typelib.specs.promise.MemberValues.{MemberValue}
 use Rattle.oa_typelib.specs.Typed.{IsTypedDeclaration}
 use Rattle.oa_typelib.specs.declared.access.Access.{Access}
 use Rattle.oa_typelib.specs.declared.access.Kind.{Kind}
@@ -58,8 +59,11 @@ mapped_type (Some p) h = h
 pub holds_typed : (d : DeclarationValue) → IsTypedDeclaration d → IfSome (type_of_value d) HasZero
 holds_typed d h = by (is_put d.kind)
   where
-    by : (b : Bool) → IfSome (if b then option_map (λ (p : Parameter). p.value_type) (if b then slice_get d.parameters (length d.parameters - 1) else None) else d.value_type) HasZero
-    by true = mapped_type (slice_get d.parameters (length d.parameters - 1)) (get_all (λ (p : Parameter). HasZero p.value_type) d.parameters (length d.parameters - 1) h.1)
+    by : (b : Bool)
+        → IfSome (if b then option_map (λ (p : Parameter). p.value_type) (if b then slice_get d.parameters (length d.parameters - 1) else None) else
+        d.value_type) HasZero
+    by true = mapped_type (slice_get d.parameters (length d.parameters - 1))
+        (get_all (λ (p : Parameter). HasZero p.value_type) d.parameters (length d.parameters - 1) h.1)
     by false = h.0
 
 -- ---- a property that is found
@@ -71,7 +75,8 @@ few_own d h = by (is_put d.kind)
     by true = omega (arith, length-take (length d.parameters - 1) d.parameters, h)
     by false = h
 
-property_bindable : (forms : List DeclarationValue) (d : DeclarationValue) (o : Option ValueType) → IsSoundDeclaration d → is_method d.kind ≡ false → IfSome o HasZero → IfSome (option_map (property_of forms d) o) IsBindable
+property_bindable : (forms : List DeclarationValue) (d : DeclarationValue) (o : Option ValueType) → IsSoundDeclaration d → is_method d.kind ≡ false
+    → IfSome o HasZero → IfSome (option_map (property_of forms d) o) IsBindable
 property_bindable forms d None is property has = tt
 property_bindable forms d (Some t) is property has = record { zero = has; few = few_own d is.few; scalars = is.scalars property; defaults = is.defaults }
 
@@ -94,7 +99,8 @@ answer_bindable : (o : Option DeclarationValue) (forms : List DeclarationValue) 
 answer_bindable None forms access h = tt
 answer_bindable (Some d) forms access h = by (is_method d.kind) refl
   where
-    by : (b : Bool) → is_method d.kind ≡ b → Found (if b then Err (method_fault access) else property_answer (option_map (property_of forms d) (type_of_value d)) access)
+    by : (b : Bool) → is_method d.kind ≡ b
+        → Found (if b then Err (method_fault access) else property_answer (option_map (property_of forms d) (type_of_value d)) access)
     by true e = tt
     by false e = answered (option_map (property_of forms d) (type_of_value d)) access (property_bindable forms d (type_of_value d) h e h.zero)
 
@@ -111,7 +117,8 @@ either None p h k = k
 either (Some d) p h k = h
 
 main_sound : (forms : List DeclarationValue) → AreSound forms → IfSome (main_form forms) IsSoundDeclaration
-main_sound forms all = either (form_for kinds.Get forms) (slice_get forms 0) (find_all IsSoundDeclaration (λ (d : DeclarationValue). lets kinds.Get d.kind) forms all) (get_all IsSoundDeclaration forms 0 all)
+main_sound forms all = either (form_for kinds.Get forms) (slice_get forms 0)
+    (find_all IsSoundDeclaration (λ (d : DeclarationValue). lets kinds.Get d.kind) forms all) (get_all IsSoundDeclaration forms 0 all)
 
 with_sound : (i : InterfaceValue) (id : ℤ) → AreSound (declarations i) → AreSound (forms_with id i)
 with_sound i id all = filter_all IsSoundDeclaration (λ (d : DeclarationValue). int_eq id d.id) (declarations i) all
@@ -153,5 +160,6 @@ interface_sound None h = tt
 interface_sound (Some (Interface i)) h = h
 interface_sound (Some (Coclass c)) h = tt
 
-pub interface_at_sound : (items : List Item) (place : ℕ) → AllByRecursion IsSoundItem items → IfSome (option_and_then as_interface (slice_get items place)) (λ i. AreSound (declarations i))
+pub interface_at_sound : (items : List Item) (place : ℕ) → AllByRecursion IsSoundItem items → IfSome (option_and_then as_interface (slice_get items place))
+    (λ i. AreSound (declarations i))
 interface_at_sound items place all = interface_sound (slice_get items place) (get_all IsSoundItem items place all)

@@ -11,7 +11,7 @@ use Rattle.std.specs.List.{filter, filter_map, cons_option, list_any, position_o
 use Rattle.std.specs.Option.{option_map, option_and_then, unwrap_or}
 use Rattle.indexmap.specs.IndexSet.{insert_key}
 use Rattle.oa_typelib.specs.Groups.{distinct, places_of, with_place, places_in}
-use Rattle.oa_checks.proofs.Lists.{position_finds, length-mapped}
+use Rattle.oa_sema.proofs.Lists.{position_finds, length-mapped}
 
 -- ---- places
 
@@ -19,12 +19,15 @@ filter_later : {X : Type 0} (x : X) (xs : List X) (ns : List ℕ) → filter_map
 filter_later x xs [] = refl
 filter_later x xs (n ∷ ns) = ap (cons_option (slice_get xs n)) (filter_later x xs ns)
 
-at_place : {X : Type 0} (b : Bool) (x : X) (xs : List X) (ns : List ℕ) → filter_map (slice_get (x ∷ xs)) (if b then zero ∷ map (λ n. suc n) ns else map (λ n. suc n) ns) ≡ cond b (x ∷ filter_map (slice_get xs) ns) (filter_map (slice_get xs) ns)
+at_place : {X : Type 0} (b : Bool) (x : X) (xs : List X) (ns : List ℕ)
+    → filter_map (slice_get (x ∷ xs)) (if b then zero ∷ map (λ n. suc n) ns else map (λ n. suc n) ns) ≡ cond b (x ∷ filter_map (slice_get xs) ns)
+    (filter_map (slice_get xs) ns)
 at_place true x xs ns = ap (λ ys. x ∷ ys) (filter_later x xs ns)
 at_place false x xs ns = filter_later x xs ns
 
 -- The entries at the places of a key.
-pub at_places : {X K : Type 0} (eq : K → K → Bool) (key : X → K) (k : K) (xs : List X) → filter_map (slice_get xs) (places_of eq k (map key xs)) ≡ filter (λ x. eq k (key x)) xs
+pub at_places : {X K : Type 0} (eq : K → K → Bool) (key : X → K) (k : K) (xs : List X) → filter_map (slice_get xs) (places_of eq k (map key xs)) ≡ filter
+    (λ x. eq k (key x)) xs
 unfolding places_of
 at_places eq key k [] = refl
 at_places eq key k (x ∷ xs) = at_place (eq k (key x)) x xs (places_of eq k (map key xs)) ∙ ap (λ ys. cond (eq k (key x)) (x ∷ ys) ys) (at_places eq key k xs)
@@ -34,7 +37,8 @@ first_later : (ns : List ℕ) → slice_get (map (λ n. suc n) ns) 0 ≡ option_
 first_later [] = refl
 first_later (n ∷ ns) = refl
 
-first_of : (b : Bool) (ns : List ℕ) → slice_get (if b then zero ∷ map (λ n. suc n) ns else map (λ n. suc n) ns) 0 ≡ cond b (Some zero) (option_map (λ n. suc n) (slice_get ns 0))
+first_of : (b : Bool) (ns : List ℕ) → slice_get (if b then zero ∷ map (λ n. suc n) ns else map (λ n. suc n) ns) 0 ≡ cond b (Some zero)
+    (option_map (λ n. suc n) (slice_get ns 0))
 first_of true ns = refl
 first_of false ns = first_later ns
 
@@ -49,7 +53,8 @@ lt_step n m = by (nat_lt n m) refl
     by true h = grind (arith, nat_tests)
     by false h = grind (arith, nat_tests)
 
-pub position_step : (b : Bool) (n m : ℕ) → cond (nat_lt (cond (not b) (1 + n) 0) (suc m)) (Some (cond (not b) (1 + n) 0)) None ≡ cond b (Some zero) (option_map (λ n. suc n) (cond (nat_lt n m) (Some n) None))
+pub position_step : (b : Bool) (n m : ℕ) → cond (nat_lt (cond (not b) (1 + n) 0) (suc m)) (Some (cond (not b) (1 + n) 0)) None ≡ cond b (Some zero)
+    (option_map (λ n. suc n) (cond (nat_lt n m) (Some n) None))
 position_step true n m = let e : nat_lt 0 (suc m) ≡ true = grind (arith, nat_tests) in rw e refl
 position_step false n m = ap (λ b. cond b (Some (1 + n)) None) (lt_step n m) ∙ later_by (nat_lt n m) n
 
@@ -61,16 +66,20 @@ first_place eq k (x ∷ xs) =
     ∙ sym (position_step (eq k x) (position_or_len (eq k) xs) (length xs))
 
 -- the places in a list with one key more
-more_at : (b c : Bool) (n : ℕ) (ns : List ℕ) → (if b then zero ∷ map (λ n. suc n) (ns ++ (if c then n ∷ [] else [])) else map (λ n. suc n) (ns ++ (if c then n ∷ [] else []))) ≡ (if b then zero ∷ map (λ n. suc n) ns else map (λ n. suc n) ns) ++ (if c then suc n ∷ [] else [])
+more_at : (b c : Bool) (n : ℕ) (ns : List ℕ)
+    → (if b then zero ∷ map (λ n. suc n) (ns ++ (if c then n ∷ [] else [])) else map (λ n. suc n) (ns ++ (if c then n ∷ [] else [])))
+    ≡ (if b then zero ∷ map (λ n. suc n) ns else map (λ n. suc n) ns) ++ (if c then suc n ∷ [] else [])
 more_at true true n ns = ap (λ ms. zero ∷ ms) (map-append (λ n. suc n) ns (n ∷ []))
 more_at true false n ns = ap (λ ms. zero ∷ ms) (map-append (λ n. suc n) ns [])
 more_at false true n ns = map-append (λ n. suc n) ns (n ∷ [])
 more_at false false n ns = map-append (λ n. suc n) ns []
 
-pub places_more : {K : Type 0} (eq : K → K → Bool) (k : K) (ks : List K) (x : K) → places_of eq k (ks ++ x ∷ []) ≡ places_of eq k ks ++ (if eq k x then length ks ∷ [] else [])
+pub places_more : {K : Type 0} (eq : K → K → Bool) (k : K) (ks : List K) (x : K)
+    → places_of eq k (ks ++ x ∷ []) ≡ places_of eq k ks ++ (if eq k x then length ks ∷ [] else [])
 unfolding places_of
 places_more eq k [] x = refl
-places_more eq k (y ∷ ks) x = ap (λ (ns : List ℕ). if eq k y then zero ∷ map (λ n. suc n) ns else map (λ n. suc n) ns) (places_more eq k ks x) ∙ more_at (eq k y) (eq k x) (length ks) (places_of eq k ks)
+places_more eq k (y ∷ ks) x = ap (λ (ns : List ℕ). if eq k y then zero ∷ map (λ n. suc n) ns else map (λ n. suc n) ns) (places_more eq k ks x)
+    ∙ more_at (eq k y) (eq k x) (length ks) (places_of eq k ks)
 
 pub distinct_more : {K : Type 0} (eq : K → K → Bool) (ks : List K) (x : K) → distinct eq (ks ++ x ∷ []) ≡ insert_key eq (distinct eq ks) x
 distinct_more eq ks x = fold-append (insert_key eq) [] ks (x ∷ [])
@@ -157,7 +166,8 @@ module _ {K : Type 0} (eq : K → K → Bool) (laws : IsEquivalence eq) where
       by : (b : Bool) → b ≡ (b || false)
       by true = refl
       by false = refl
-  any_all x seen (k ∷ ks) = any_all x (insert_key eq seen k) ks ∙ ap (λ b. b || list_any (eq x) ks) (any_insert x k seen) ∙ or_assoc (list_any (eq x) seen) (eq x k) (list_any (eq x) ks)
+  any_all x seen (k ∷ ks) = any_all x (insert_key eq seen k) ks ∙ ap (λ b. b || list_any (eq x) ks) (any_insert x k seen)
+      ∙ or_assoc (list_any (eq x) seen) (eq x k) (list_any (eq x) ks)
 
   places_none : (x : K) (ks : List K) → list_any (eq x) ks ≡ false → places_of eq x ks ≡ []
   unfolding places_of
@@ -173,11 +183,14 @@ module _ {K : Type 0} (eq : K → K → Bool) (laws : IsEquivalence eq) where
   places_like x y (k ∷ ks) e = rw (laws.congr x y k e, places_like x y ks e) refl
 
   -- ---- the group of a key
-  found_group : (x : K) (ds : List K) (ks : List K) → (list_any (eq x) ds ≡ false → places_of eq x ks ≡ []) → unwrap_or (option_map (λ k. places_of eq k ks) (find (eq x) ds)) [] ≡ places_of eq x ks
+  found_group : (x : K) (ds : List K) (ks : List K) → (list_any (eq x) ds ≡ false → places_of eq x ks ≡ [])
+      → unwrap_or (option_map (λ k. places_of eq k ks) (find (eq x) ds)) [] ≡ places_of eq x ks
   found_group x [] ks none = sym (none refl)
   found_group x (d ∷ ds) ks none = by (eq x d) refl (λ h. found_group x ds ks h)
     where
-      by : (b : Bool) → eq x d ≡ b → ((list_any (eq x) ds ≡ false → places_of eq x ks ≡ []) → unwrap_or (option_map (λ k. places_of eq k ks) (find (eq x) ds)) [] ≡ places_of eq x ks) → unwrap_or (option_map (λ k. places_of eq k ks) (cond b (Some d) (find (eq x) ds))) [] ≡ places_of eq x ks
+      by : (b : Bool) → eq x d ≡ b
+          → ((list_any (eq x) ds ≡ false → places_of eq x ks ≡ []) → unwrap_or (option_map (λ k. places_of eq k ks) (find (eq x) ds)) [] ≡ places_of eq x ks)
+          → unwrap_or (option_map (λ k. places_of eq k ks) (cond b (Some d) (find (eq x) ds))) [] ≡ places_of eq x ks
       by true e rest = sym (places_like x d ks e)
       by false e rest = rest (λ h. none (ap (λ b. b || list_any (eq x) ds) e ∙ h))
 
@@ -192,7 +205,8 @@ module _ {K : Type 0} (eq : K → K → Bool) (laws : IsEquivalence eq) where
   pub group_of : (x : K) (ks : List K) → places_in (position (eq x) (distinct eq ks)) (map (λ k. places_of eq k ks) (distinct eq ks)) ≡ places_of eq x ks
   group_of x ks =
       in_group (position (eq x) (distinct eq ks)) (map (λ k. places_of eq k ks) (distinct eq ks))
-      ∙ ap (λ o. unwrap_or o []) (mapped_group (λ k. places_of eq k ks) (position (eq x) (distinct eq ks)) (distinct eq ks) ∙ ap (option_map (λ k. places_of eq k ks)) (position_finds (eq x) (distinct eq ks)))
+      ∙ ap (λ o. unwrap_or o []) (mapped_group (λ k. places_of eq k ks) (position (eq x) (distinct eq ks)) (distinct eq ks)
+      ∙ ap (option_map (λ k. places_of eq k ks)) (position_finds (eq x) (distinct eq ks)))
       ∙ found_group x (distinct eq ks) ks (not_there x ks)
 
   -- ---- one key more
@@ -202,37 +216,49 @@ module _ {K : Type 0} (eq : K → K → Bool) (laws : IsEquivalence eq) where
       let s = or_false (eq x d) (list_any (eq x) ds) h in
       rw (laws.symm d x ∙ s.0, more_same f x n ds s.1, append-nil (f d)) refl
 
-  with_new : (f : K → List ℕ) (x : K) (n : ℕ) (ds : List K) → list_any (eq x) ds ≡ false → with_place (position_or_len (eq x) ds) n (map f ds) ≡ map f ds ++ (n ∷ []) ∷ []
+  with_new : (f : K → List ℕ) (x : K) (n : ℕ) (ds : List K) → list_any (eq x) ds ≡ false → with_place (position_or_len (eq x) ds) n (map f ds) ≡ map f ds
+      ++ (n ∷ []) ∷ []
   unfolding with_place
   with_new f x n [] h = refl
   with_new f x n (d ∷ ds) h =
       let s = or_false (eq x d) (list_any (eq x) ds) h in
-      ap (λ b. with_place (cond (not b) (1 + position_or_len (eq x) ds) 0) n (f d ∷ map f ds)) s.0 ∙ later (position_or_len (eq x) ds) n (f d) (map f ds) ∙ ap (λ pss. f d ∷ pss) (with_new f x n ds s.1)
+      ap (λ b. with_place (cond (not b) (1 + position_or_len (eq x) ds) 0) n (f d ∷ map f ds)) s.0 ∙ later (position_or_len (eq x) ds) n (f d) (map f ds)
+      ∙ ap (λ pss. f d ∷ pss) (with_new f x n ds s.1)
 
-  with_old : (f : K → List ℕ) (x : K) (n : ℕ) (ds : List K) → Differ ds → list_any (eq x) ds ≡ true → map (λ k. f k ++ (if eq k x then n ∷ [] else [])) ds ≡ with_place (position_or_len (eq x) ds) n (map f ds)
+  with_old : (f : K → List ℕ) (x : K) (n : ℕ) (ds : List K) → Differ ds → list_any (eq x) ds ≡ true
+      → map (λ k. f k ++ (if eq k x then n ∷ [] else [])) ds ≡ with_place (position_or_len (eq x) ds) n (map f ds)
   unfolding with_place
   with_old f x n [] d h = absurd (true≢false (sym h))
   with_old f x n (y ∷ ds) d h = by (eq x y) refl (with_old f x n ds d.1)
     where
-      by : (b : Bool) → eq x y ≡ b → (list_any (eq x) ds ≡ true → map (λ k. f k ++ (if eq k x then n ∷ [] else [])) ds ≡ with_place (position_or_len (eq x) ds) n (map f ds)) → (f y ++ (if eq y x then n ∷ [] else [])) ∷ map (λ k. f k ++ (if eq k x then n ∷ [] else [])) ds ≡ with_place (cond (not b) (1 + position_or_len (eq x) ds) 0) n (f y ∷ map f ds)
+      by : (b : Bool) → eq x y ≡ b
+          → (list_any (eq x) ds ≡ true → map (λ k. f k ++ (if eq k x then n ∷ [] else [])) ds ≡ with_place (position_or_len (eq x) ds) n (map f ds))
+          → (f y ++ (if eq y x then n ∷ [] else [])) ∷ map (λ k. f k ++ (if eq k x then n ∷ [] else [])) ds ≡ with_place
+          (cond (not b) (1 + position_or_len (eq x) ds) 0) n (f y ∷ map f ds)
       by true e rest = rw (laws.symm y x ∙ e, more_same f x n ds (any_like x y ds e ∙ d.0)) refl
-      by false e rest = rw (laws.symm y x ∙ e, append-nil (f y)) (ap (λ pss. f y ∷ pss) (rest (sym (ap (λ b. b || list_any (eq x) ds) e) ∙ h)) ∙ sym (later (position_or_len (eq x) ds) n (f y) (map f ds)))
+      by false e rest =
+          rw (laws.symm y x ∙ e, append-nil (f y))
+          (ap (λ pss. f y ∷ pss) (rest (sym (ap (λ b. b || list_any (eq x) ds) e) ∙ h)) ∙ sym (later (position_or_len (eq x) ds) n (f y) (map f ds)))
 
   new_group : (x : K) (ks : List K) → places_of eq x ks ≡ [] → places_of eq x (ks ++ x ∷ []) ≡ length ks ∷ []
   new_group x ks none = places_more eq x ks x ∙ rw (none, laws.refl x) refl
 
-  all_more : (ks : List K) (x : K) (ds : List K) → map (λ k. places_of eq k (ks ++ x ∷ [])) ds ≡ map (λ k. places_of eq k ks ++ (if eq k x then length ks ∷ [] else [])) ds
+  all_more : (ks : List K) (x : K) (ds : List K) → map (λ k. places_of eq k (ks ++ x ∷ [])) ds ≡ map
+      (λ k. places_of eq k ks ++ (if eq k x then length ks ∷ [] else [])) ds
   all_more ks x [] = refl
   all_more ks x (d ∷ ds) = rw (places_more eq d ks x, all_more ks x ds) refl
 
-  pub grows : (ks : List K) (x : K) → map (λ k. places_of eq k (ks ++ x ∷ [])) (insert_key eq (distinct eq ks) x) ≡ with_place (position_or_len (eq x) (distinct eq ks)) (length ks) (map (λ k. places_of eq k ks) (distinct eq ks))
+  pub grows : (ks : List K) (x : K) → map (λ k. places_of eq k (ks ++ x ∷ [])) (insert_key eq (distinct eq ks) x) ≡ with_place
+      (position_or_len (eq x) (distinct eq ks)) (length ks) (map (λ k. places_of eq k ks) (distinct eq ks))
   grows ks x = by (list_any (eq x) (distinct eq ks)) refl
     where
-      by : (b : Bool) → list_any (eq x) (distinct eq ks) ≡ b → map (λ k. places_of eq k (ks ++ x ∷ [])) (if b then distinct eq ks else distinct eq ks ++ x ∷ []) ≡ with_place (position_or_len (eq x) (distinct eq ks)) (length ks) (map (λ k. places_of eq k ks) (distinct eq ks))
+      by : (b : Bool) → list_any (eq x) (distinct eq ks) ≡ b → map (λ k. places_of eq k (ks ++ x ∷ [])) (if b then distinct eq ks else distinct eq ks ++ x ∷ [])
+          ≡ with_place (position_or_len (eq x) (distinct eq ks)) (length ks) (map (λ k. places_of eq k ks) (distinct eq ks))
       by true h = all_more ks x (distinct eq ks) ∙ with_old (λ k. places_of eq k ks) x (length ks) (distinct eq ks) (differ ks) h
       by false h =
           map-append (λ k. places_of eq k (ks ++ x ∷ [])) (distinct eq ks) (x ∷ [])
-          ∙ rw (all_more ks x (distinct eq ks), more_same (λ k. places_of eq k ks) x (length ks) (distinct eq ks) h, new_group x ks (not_there x ks h)) (sym (with_new (λ k. places_of eq k ks) x (length ks) (distinct eq ks) h))
+          ∙ rw (all_more ks x (distinct eq ks), more_same (λ k. places_of eq k ks) x (length ks) (distinct eq ks) h, new_group x ks (not_there x ks h))
+          (sym (with_new (λ k. places_of eq k ks) x (length ks) (distinct eq ks) h))
 
   -- ---- a turn of a loop that puts keys into groups
   module _ {X : Type 0} (key : X → K) (xs : List X) (i : ℕ) (x : X) (h : i < length xs) (is : x ≡ get_or xs i x) where
@@ -247,12 +273,15 @@ module _ {K : Type 0} (eq : K → K → Bool) (laws : IsEquivalence eq) where
     pub keys_grow : distinct eq (map key (take (i + 1) xs)) ≡ insert_key eq (distinct eq (map key (take i xs))) (key x)
     keys_grow = ap (distinct eq) turn_keys ∙ distinct_more eq (map key (take i xs)) (key x)
 
-    pub places_grow : map (λ k. places_of eq k (map key (take (i + 1) xs))) (distinct eq (map key (take (i + 1) xs))) ≡ with_place (position_or_len (eq (key x)) (distinct eq (map key (take i xs)))) i (map (λ k. places_of eq k (map key (take i xs))) (distinct eq (map key (take i xs))))
+    pub places_grow : map (λ k. places_of eq k (map key (take (i + 1) xs))) (distinct eq (map key (take (i + 1) xs))) ≡ with_place
+        (position_or_len (eq (key x)) (distinct eq (map key (take i xs)))) i
+        (map (λ k. places_of eq k (map key (take i xs))) (distinct eq (map key (take i xs))))
     places_grow =
         ap (λ ks. map (λ k. places_of eq k ks) (distinct eq ks)) turn_keys
         ∙ ap (map (λ k. places_of eq k (map key (take i xs) ++ key x ∷ []))) (distinct_more eq (map key (take i xs)) (key x))
         ∙ grows (map key (take i xs)) (key x)
-        ∙ ap (λ n. with_place (position_or_len (eq (key x)) (distinct eq (map key (take i xs)))) n (map (λ k. places_of eq k (map key (take i xs))) (distinct eq (map key (take i xs))))) turn_length
+        ∙ ap (λ n. with_place (position_or_len (eq (key x)) (distinct eq (map key (take i xs)))) n
+        (map (λ k. places_of eq k (map key (take i xs))) (distinct eq (map key (take i xs))))) turn_length
 
 -- whether a key has a place
 any_first : (b : Bool) (ns : List ℕ) → is_some (slice_get (if b then zero ∷ map (λ n. suc n) ns else map (λ n. suc n) ns) 0) ≡ (b || is_some (slice_get ns 0))

@@ -32,14 +32,17 @@ module _ {X Y : Type 0} (f : X → Option Y) (xs : List X) (i : ℕ) (x : X) (h 
       rw (r, e, ← is, some) refl
 
 -- ---- lists that are added to others, one member more in each turn
-pub described_more : {X Y : Type 0} (front : List Y) (g : X → Y) (xs more : List X) (x : X) (old new : List Y) (y : Y) → old ≡ front ++ map g xs → new ≡ old ++ y ∷ [] → y ≡ g x → more ≡ xs ++ x ∷ [] → new ≡ front ++ map g more
+pub described_more : {X Y : Type 0} (front : List Y) (g : X → Y) (xs more : List X) (x : X) (old new : List Y) (y : Y) → old ≡ front ++ map g xs
+    → new ≡ old ++ y ∷ [] → y ≡ g x → more ≡ xs ++ x ∷ [] → new ≡ front ++ map g more
 described_more front g xs more x old new y o n e m = n ∙ rw (o, m, e, map-append, append_assoc) refl
 
-pub seen_more : {X Y Z : Type 0} (f : X → Z) (g : Y → Z) (old new : List X) (ys more : List Y) (x : X) (y : Y) → map f old ≡ map g ys → new ≡ old ++ x ∷ [] → f x ≡ g y → more ≡ ys ++ y ∷ [] → map f new ≡ map g more
+pub seen_more : {X Y Z : Type 0} (f : X → Z) (g : Y → Z) (old new : List X) (ys more : List Y) (x : X) (y : Y) → map f old ≡ map g ys → new ≡ old ++ x ∷ []
+    → f x ≡ g y → more ≡ ys ++ y ∷ [] → map f new ≡ map g more
 seen_more f g old new ys more x y o n e m = rw (n, m, map-append, map-append, o, e) refl
 
 -- ---- The results of a function that pass a test.
-filter_step : {Y : Type 0} (p : Y → Bool) (o : Option Y) (ys : List Y) → filter p (cons_option o ys) ≡ cons_option (option_and_then (λ y. if p y then Some y else None) o) (filter p ys)
+filter_step : {Y : Type 0} (p : Y → Bool) (o : Option Y) (ys : List Y)
+    → filter p (cons_option o ys) ≡ cons_option (option_and_then (λ y. if p y then Some y else None) o) (filter p ys)
 filter_step p None ys = refl
 filter_step p (Some y) ys = by (p y)
   where
@@ -47,6 +50,8 @@ filter_step p (Some y) ys = by (p y)
     by true = refl
     by false = refl
 
-pub filter_of_map : {X Y : Type 0} (p : Y → Bool) (f : X → Option Y) (xs : List X) → filter p (filter_map f xs) ≡ filter_map (λ x. option_and_then (λ y. if p y then Some y else None) (f x)) xs
+pub filter_of_map : {X Y : Type 0} (p : Y → Bool) (f : X → Option Y) (xs : List X)
+    → filter p (filter_map f xs) ≡ filter_map (λ x. option_and_then (λ y. if p y then Some y else None) (f x)) xs
 filter_of_map p f [] = refl
-filter_of_map p f (x ∷ xs) = filter_step p (f x) (filter_map f xs) ∙ ap (cons_option (option_and_then (λ y. if p y then Some y else None) (f x))) (filter_of_map p f xs)
+filter_of_map p f (x ∷ xs) = filter_step p (f x) (filter_map f xs) ∙ ap (cons_option (option_and_then (λ y. if p y then Some y else None) (f x)))
+    (filter_of_map p f xs)

@@ -11,31 +11,32 @@ use Rattle.std.specs.Cmp.Lexicographic.{pointwise}
 use Rattle.std.specs.List.{AllByRecursion, filter, list_any, position_or_len}
 use Rattle.std.specs.Option.{option_map, option_and_then, option_or}
 use Rattle.std.specs.Ordering.{int_eq}
-use Rattle.oa_model.specs.Folding.{folded_name}
-use Rattle.oa_model.specs.Limits.{max_parameters}
-use Rattle.oa_idl.specs.Trees.{TreeValue}
-use Rattle.oa_idl.specs.Values.{InterfaceValue}
+use Rattle.oa_model.specs.promise.Folding.{folded_name}
+use Rattle.oa_model.specs.promise.Limits.{max_parameters}
+use Rattle.oa_idl.specs.promise.Trees.{TreeValue}
+use Rattle.oa_idl.specs.promise.Values.{InterfaceValue}
 use Rattle.oa_idl.specs.declared.parts.Parameter.{Parameter}
 use Rattle.oa_idl.specs.declared.items.Item.{Item}
 use Rattle.oa_idl.specs.declared.items.Item.TheVariants.{Interface, Coclass}
-use Rattle.oa_checks.specs.Agreement.{same_value_type, same_result, same_default, is_optional, same_parameter, agree}
+use Rattle.oa_sema.specs.promise.Agreement.{same_value_type, same_result, same_default, is_optional, same_parameter}
+use Rattle.oa_sema.specs.promise.Agreement.{agree}
 use Rattle.oa_typelib.specs.Bindable.{IsSoundDeclaration, AreSound, IsSoundItem}
-use Rattle.oa_checks.specs.Breaches.{repeated_name, clashes, declared_breach, item_breach, inner_breach, name_breach}
-use Rattle.oa_checks.specs.Breaches.{id_breach, guid_breach, key_breaches, tree_breach, text_breach, interface_breach}
-use Rattle.oa_checks.specs.Breaches.{form_breaches, in_interface, broken_by, first_broken, disagrees}
-use Rattle.oa_typelib.specs.Checked.{IsChecked}
-use Rattle.oa_checks.specs.DeclarationValues.{DeclarationValue}
-use Rattle.oa_checks.specs.Declarations.{declarations, is_put, own_parameters, type_of_value}
-use Rattle.oa_checks.specs.Repeats.{Has}
-use Rattle.oa_checks.specs.Libraries.{same, same_name, item_name, marked_item}
-use Rattle.oa_typelib.specs.Members.{form_for, forms_named, lets, main_form}
-use Rattle.oa_typelib.specs.Names.{ids_in, named_in, parameter_named, place_as_id}
+use Rattle.oa_sema.specs.promise.Breaches.{repeated_name, clashes, declared_breach, item_breach, inner_breach}
+use Rattle.oa_sema.specs.promise.Breaches.{name_breach, id_breach, guid_breach, key_breaches, tree_breach, text_breach}
+use Rattle.oa_sema.specs.promise.Breaches.{interface_breach, form_breaches, in_interface, broken_by, first_broken}
+use Rattle.oa_sema.specs.promise.Breaches.{disagrees}
+use Rattle.oa_typelib.specs.promise.Checked.{IsChecked}
+use Rattle.oa_sema.specs.promise.DeclarationValues.{DeclarationValue}
+use Rattle.oa_sema.specs.promise.Declarations.{declarations, is_put, own_parameters, type_of_value}
+use Rattle.oa_sema.specs.promise.Repeats.{Has, first_repeat, first_after}
+use Rattle.oa_sema.specs.promise.Libraries.{same, same_name, item_name, marked_item}
+use Rattle.oa_typelib.specs.promise.Members.{form_for, forms_named, lets, main_form}
+use Rattle.oa_typelib.specs.promise.Names.{ids_in, named_in, parameter_named, place_as_id}
 use Rattle.oa_typelib.specs.Naming.{Declares, IsMember, IsParameterOf}
-use Rattle.oa_checks.specs.Repeats.{first_repeat, first_after}
 use Rattle.oa_typelib.specs.declared.access.Kind.TheVariants as kinds
-use Rattle.oa_checks.specs.declared.fault.CheckError.TheVariants.{DuplicateName, DuplicateId, DuplicateGuid, UnknownInterface}
+use Rattle.oa_sema.specs.declared.fault.CheckError.TheVariants.{DuplicateName, DuplicateId, DuplicateGuid, UnknownInterface}
 use Rattle.oa_typelib.proofs.Grouping.{position_step}
-use Rattle.oa_checks.proofs.Rules.{agree_equiv}
+use Rattle.oa_sema.proofs.Rules.{agree_equiv}
 use Rattle.oa_typelib.proofs.Same.{found_at, inside}
 use Rattle.oa_typelib.proofs.Sound.{neither, unmapped, none_of, breaks_none, tree_sound}
 
@@ -51,7 +52,8 @@ in_filter {X = X} test (y ∷ ys) n x e = by (test y) refl n (λ m h. in_filter 
     later : Passing test ys x → Passing test (y ∷ ys) x
     later p = (suc p.0, p.1, p.2)
 
-    by : (b : Bool) → test y ≡ b → (n : ℕ) → ((m : ℕ) → slice_get (filter test ys) m ≡ Some x → Passing test ys x) → slice_get (cond b (y ∷ filter test ys) (filter test ys)) n ≡ Some x → Passing test (y ∷ ys) x
+    by : (b : Bool) → test y ≡ b → (n : ℕ) → ((m : ℕ) → slice_get (filter test ys) m ≡ Some x → Passing test ys x)
+        → slice_get (cond b (y ∷ filter test ys) (filter test ys)) n ≡ Some x → Passing test (y ∷ ys) x
     by true is zero rest h = (zero, h, subst (λ (z : X). test z ≡ true) (inside y x h) is)
     by true is (suc n) rest h = later (rest n h)
     by false is n rest h = later (rest n h)
@@ -96,9 +98,11 @@ all_at P (y ∷ ys) all (suc n) x h = all_at P ys all.1 n x h
 
 position_in : {X : Type 0} (test : X → Bool) (xs : List X) (n : ℕ) → position test xs ≡ Some n → (x : X) × (slice_get xs n ≡ Some x) × (test x ≡ true)
 position_in {X = X} test [] n e = absurd cc
-position_in {X = X} test (y ∷ ys) n e = by (test y) refl (position test ys) (λ m h. position_in test ys m h) n (sym (position_step (test y) (position_or_len test ys) (length ys)) ∙ e)
+position_in {X = X} test (y ∷ ys) n e = by (test y) refl (position test ys) (λ m h. position_in test ys m h) n
+    (sym (position_step (test y) (position_or_len test ys) (length ys)) ∙ e)
   where
-    by : (b : Bool) → test y ≡ b → (o : Option ℕ) → ((m : ℕ) → o ≡ Some m → (x : X) × (slice_get ys m ≡ Some x) × (test x ≡ true)) → (n : ℕ) → cond b (Some zero) (option_map (λ m. suc m) o) ≡ Some n → (x : X) × (slice_get (y ∷ ys) n ≡ Some x) × (test x ≡ true)
+    by : (b : Bool) → test y ≡ b → (o : Option ℕ) → ((m : ℕ) → o ≡ Some m → (x : X) × (slice_get ys m ≡ Some x) × (test x ≡ true)) → (n : ℕ)
+        → cond b (Some zero) (option_map (λ m. suc m) o) ≡ Some n → (x : X) × (slice_get (y ∷ ys) n ≡ Some x) × (test x ≡ true)
     by true is o rest zero h = (y, refl, is)
     by true is o rest (suc n) h = absurd cc
     by false is None rest n h = absurd cc
@@ -107,7 +111,8 @@ position_in {X = X} test (y ∷ ys) n e = by (test y) refl (position test ys) (�
 
 has_position : {X : Type 0} (test : X → Bool) (xs : List X) (n : ℕ) (x : X) → slice_get xs n ≡ Some x → test x ≡ true → (m : ℕ) × (position test xs ≡ Some m)
 has_position {X = X} test [] n x h is = absurd cc
-has_position {X = X} test (y ∷ ys) zero x h is = let first : test y ≡ true = ap test (inside y x h) ∙ is in (zero, position_step (test y) (position_or_len test ys) (length ys) ∙ rw first refl)
+has_position {X = X} test (y ∷ ys) zero x h is = let first : test y ≡ true = ap test (inside y x h) ∙ is in
+    (zero, position_step (test y) (position_or_len test ys) (length ys) ∙ rw first refl)
 has_position {X = X} test (y ∷ ys) (suc n) x h is =
     let later = has_position test ys n x h is in
     let r = by (test y) (position test ys) later in
@@ -117,7 +122,8 @@ has_position {X = X} test (y ∷ ys) (suc n) x h is =
     by true o h = (zero, refl)
     by false o h = (suc h.0, ap (option_map (λ m. suc m)) h.1)
 
-pointwise_at : {X : Type 0} (eq : X → X → Bool) (xs ys : List X) → pointwise eq xs ys ≡ true → (n : ℕ) (x : X) → slice_get xs n ≡ Some x → (y : X) × (slice_get ys n ≡ Some y) × (eq x y ≡ true)
+pointwise_at : {X : Type 0} (eq : X → X → Bool) (xs ys : List X) → pointwise eq xs ys ≡ true → (n : ℕ) (x : X) → slice_get xs n ≡ Some x → (y : X)
+    × (slice_get ys n ≡ Some y) × (eq x y ≡ true)
 pointwise_at {X = X} eq [] ys e n x h = absurd cc
 pointwise_at {X = X} eq (z ∷ xs) [] e n x h = absurd (true≢false (sym e))
 pointwise_at {X = X} eq (z ∷ xs) (y ∷ ys) e zero x h = (y, refl, ap (λ (w : X). eq w y) (sym (inside z x h)) ∙ (and_parts (eq z y) (pointwise eq xs ys) e).0)
@@ -142,10 +148,12 @@ name_both a b c e f = sym (nat_list_eq_equiv.congr (folded_name a) (folded_name 
 
 -- ---- declarations that break no rule with one before them, in any order
 
-module _ {Y : Type 0} (f : List DeclarationValue → DeclarationValue → Option Y) (breaks : DeclarationValue → DeclarationValue → Bool) (R : DeclarationValue → DeclarationValue → Type 0)
+module _ {Y : Type 0} (f : List DeclarationValue → DeclarationValue → Option Y) (breaks : DeclarationValue → DeclarationValue → Bool)
+    (R : DeclarationValue → DeclarationValue → Type 0)
     (each : (before : List DeclarationValue) (d : DeclarationValue) → f before d ≡ None → list_any (breaks d) before ≡ false)
     (from : (d e : DeclarationValue) → breaks d e ≡ false → R d e) where
-  apart : (before xs : List DeclarationValue) → first_after f before xs ≡ None → (n m : ℕ) (d e : DeclarationValue) → slice_get xs n ≡ Some d → slice_get before m ≡ Some e → R d e
+  apart : (before xs : List DeclarationValue) → first_after f before xs ≡ None → (n m : ℕ) (d e : DeclarationValue) → slice_get xs n ≡ Some d
+      → slice_get before m ≡ Some e → R d e
   unfolding first_after
   apart before [] none n m d e at there = absurd cc
   apart before (x ∷ xs) none zero m d e at there =
@@ -155,7 +163,8 @@ module _ {Y : Type 0} (f : List DeclarationValue → DeclarationValue → Option
       let h = neither (f before x) (first_after f (before ++ x ∷ []) xs) none in
       apart (before ++ x ∷ []) xs h.1 n m d e at (front_at before (x ∷ []) m e there)
 
-  pub any_two : ((d : DeclarationValue) → R d d) → ((d e : DeclarationValue) → R d e → R e d) → (before xs : List DeclarationValue) → first_after f before xs ≡ None → (m n : ℕ) (d e : DeclarationValue)
+  pub any_two : ((d : DeclarationValue) → R d d) → ((d e : DeclarationValue) → R d e → R e d) → (before xs : List DeclarationValue)
+      → first_after f before xs ≡ None → (m n : ℕ) (d e : DeclarationValue)
       → slice_get xs m ≡ Some d → slice_get xs n ≡ Some e → R d e
   unfolding first_after
   any_two itself symm before [] none m n d e at there = absurd cc
@@ -180,22 +189,26 @@ Agreeing xs = (m n : ℕ) (d e : DeclarationValue) → slice_get xs m ≡ Some d
 
 all_agree : (xs : List DeclarationValue) → first_after (broken_by disagrees) [] xs ≡ None → Agreeing xs
 all_agree xs none =
-    any_two (broken_by disagrees) disagrees (λ d e. same_name d.name e.name ≡ true → agree d e ≡ true) (λ before x h. (unless (list_any (disagrees x) before) x.name None h).0) agreeing
+    any_two (broken_by disagrees) disagrees (λ d e. same_name d.name e.name ≡ true → agree d e ≡ true)
+    (λ before x h. (unless (list_any (disagrees x) before) x.name None h).0) agreeing
     (λ d _. agree_equiv.refl d) (λ d e r k. agree_equiv.symm e d ∙ r (name_symm d.name e.name ∙ k)) [] xs none
 
 same_id : (d e : DeclarationValue) → agree d e ≡ true → d.id ≡ e.id
 unfolding agree
 same_id d e is =
-    let one = and_parts (int_eq d.id e.id && same_result (type_of_value d) (type_of_value e)) (pointwise same_parameter (own_parameters d) (own_parameters e)) is in
+    let one = and_parts (int_eq d.id e.id && same_result (type_of_value d) (type_of_value e)) (pointwise same_parameter (own_parameters d) (own_parameters e))
+    is in
     (Decides-int_eq d.id e.id).0 (and_parts (int_eq d.id e.id) (same_result (type_of_value d) (type_of_value e)) one.0).0
 
 same_parameters : (d e : DeclarationValue) → agree d e ≡ true → pointwise same_parameter (own_parameters d) (own_parameters e) ≡ true
 unfolding agree
-same_parameters d e is = (and_parts (int_eq d.id e.id && same_result (type_of_value d) (type_of_value e)) (pointwise same_parameter (own_parameters d) (own_parameters e)) is).1
+same_parameters d e is =
+    (and_parts (int_eq d.id e.id && same_result (type_of_value d) (type_of_value e)) (pointwise same_parameter (own_parameters d) (own_parameters e)) is).1
 
 -- ---- names of parameters do not repeat
 
-repeated_before : (before : List (List ℕ)) (names : List (List ℕ)) → first_repeat same folded_name before names ≡ None → (n m : ℕ) (a k : List ℕ) → slice_get names n ≡ Some a → slice_get before m ≡ Some k → same (folded_name a) k ≡ false
+repeated_before : (before : List (List ℕ)) (names : List (List ℕ)) → first_repeat same folded_name before names ≡ None → (n m : ℕ) (a k : List ℕ)
+    → slice_get names n ≡ Some a → slice_get before m ≡ Some k → same (folded_name a) k ≡ false
 unfolding first_repeat
 repeated_before before [] none n m a k at there = absurd cc
 repeated_before before (x ∷ names) none zero m a k at there =
@@ -205,7 +218,8 @@ repeated_before before (x ∷ names) none (suc n) m a k at there =
     let h = unless (list_any (same (folded_name x)) before) x (first_repeat same folded_name (before ++ folded_name x ∷ []) names) none in
     repeated_before (before ++ folded_name x ∷ []) names h.1 n m a k at (front_at before (folded_name x ∷ []) m k there)
 
-one_place : (before names : List (List ℕ)) → first_repeat same folded_name before names ≡ None → (m n : ℕ) (a b : List ℕ) → slice_get names m ≡ Some a → slice_get names n ≡ Some b → same_name a b ≡ true → m ≡ n
+one_place : (before names : List (List ℕ)) → first_repeat same folded_name before names ≡ None → (m n : ℕ) (a b : List ℕ) → slice_get names m ≡ Some a
+    → slice_get names n ≡ Some b → same_name a b ≡ true → m ≡ n
 unfolding first_repeat
 one_place before [] none m n a b at there is = absurd cc
 one_place before (x ∷ names) none zero zero a b at there is = refl
@@ -224,10 +238,12 @@ one_place before (x ∷ names) none (suc m) (suc n) a b at there is =
     ap (λ k. suc k) (one_place (before ++ folded_name x ∷ []) names h.1 m n a b at there is)
 
 -- If the function has no result for any entry, it has none after some entries.
-none_after : {X Y : Type 0} (f : List X → X → Option Y) (before xs : List X) → first_after f before xs ≡ None → (n : ℕ) (x : X) → slice_get xs n ≡ Some x → (bs : List X) × (f bs x ≡ None)
+none_after : {X Y : Type 0} (f : List X → X → Option Y) (before xs : List X) → first_after f before xs ≡ None → (n : ℕ) (x : X) → slice_get xs n ≡ Some x
+    → (bs : List X) × (f bs x ≡ None)
 unfolding first_after
 none_after f before [] none n x at = absurd cc
-none_after f before (y ∷ ys) none zero x at = (before, subst (λ z. f before z ≡ None) (inside y x at) (neither (f before y) (first_after f (before ++ y ∷ []) ys) none).0)
+none_after f before (y ∷ ys) none zero x at =
+    (before, subst (λ z. f before z ≡ None) (inside y x at) (neither (f before y) (first_after f (before ++ y ∷ []) ys) none).0)
 none_after f before (y ∷ ys) none (suc n) x at = none_after f (before ++ y ∷ []) ys (neither (f before y) (first_after f (before ++ y ∷ []) ys) none).1 n x at
 
 -- ---- Consequences of a library's checks for an interface.
@@ -240,15 +256,19 @@ pub record Names_well (i : InterfaceValue) : Type 0 where
   pub once : (n : ℕ) (d : DeclarationValue) → slice_get (declarations i) n ≡ Some d → repeated_name (map name_of_parameter d.parameters) ≡ None
   pub sound : AreSound (declarations i)
 
-pub no_repeats : (xs : List Item) → name_breach xs ≡ None → (n : ℕ) (i : InterfaceValue) → slice_get xs n ≡ Some (Interface i) → first_after declared_breach [] (declarations i) ≡ None
+pub no_repeats : (xs : List Item) → name_breach xs ≡ None → (n : ℕ) (i : InterfaceValue) → slice_get xs n ≡ Some (Interface i)
+    → first_after declared_breach [] (declarations i) ≡ None
 no_repeats xs none n i at =
     let one = none_after item_breach [] xs none n (Interface i) at in
-    (unless (list_any (λ (other : Item). same_name (item_name (Interface i)) (item_name other)) one.0) (item_name (Interface i)) (inner_breach (Interface i)) one.1).1
+    (unless (list_any (λ (other : Item). same_name (item_name (Interface i)) (item_name other)) one.0) (item_name (Interface i))
+    (inner_breach (Interface i)) one.1).1
 
 pub no_name_breach : (t : TreeValue) → tree_breach t ≡ None → name_breach t.items ≡ None
 no_name_breach t e =
     let keys = neither (key_breaches t) (option_or (option_map UnknownInterface (interface_breach t.items)) (form_breaches t.items)) e in
-    unmapped DuplicateName (name_breach t.items) (neither (option_map DuplicateName (name_breach t.items)) (option_or (option_map DuplicateId (id_breach t.items)) (option_map DuplicateGuid (guid_breach t.guid t.items))) keys.0).0
+    unmapped DuplicateName (name_breach t.items)
+    (neither (option_map DuplicateName (name_breach t.items))
+    (option_or (option_map DuplicateId (id_breach t.items)) (option_map DuplicateGuid (guid_breach t.guid t.items))) keys.0).0
 
 pub unmarked : (o : Option Item) (i : InterfaceValue) → option_map marked_item o ≡ Some (Interface i) → o ≡ Some (Interface i)
 unmarked None i e = absurd cc
@@ -258,11 +278,16 @@ unmarked (Some (Coclass c)) i e = absurd cc
 pub names_well : (t : TreeValue) (n : ℕ) (i : InterfaceValue) → IsChecked t → slice_get t.items n ≡ Some (Interface i) → Names_well i
 names_well t n i is at =
     let w = is.1.tree in
-    let there : slice_get w.items n ≡ Some (Interface i) = unmarked (slice_get w.items n) i (sym (slice_get-map marked_item w.items n) ∙ ap (λ (u : TreeValue). slice_get u.items n) (sym is.1.says) ∙ at) in
+    let there : slice_get w.items n ≡ Some (Interface i) =
+    unmarked (slice_get w.items n) i (sym (slice_get-map marked_item w.items n) ∙ ap (λ (u : TreeValue). slice_get u.items n) (sym is.1.says) ∙ at) in
     let none = neither (tree_breach w) (text_breach w) is.1.unbroken in
     record {
-      agree = all_agree (declarations i) (all_at (λ x. in_interface (first_broken disagrees) x ≡ None) w.items (none_of (in_interface (first_broken disagrees)) w.items (breaks_none w is.1.unbroken).3) n (Interface i) there);
-      once = λ m d here. (let one = none_after declared_breach [] (declarations i) (no_repeats w.items (no_name_breach w none.0) n i there) m d here in (unless (list_any (clashes d) one.0) d.name (repeated_name (map name_of_parameter d.parameters)) one.1).1);
+      agree =
+          all_agree (declarations i) (all_at (λ x. in_interface (first_broken disagrees) x ≡ None) w.items
+          (none_of (in_interface (first_broken disagrees)) w.items (breaks_none w is.1.unbroken).3) n (Interface i) there);
+      once =
+          λ m d here. (let one = none_after declared_breach [] (declarations i) (no_repeats w.items (no_name_breach w none.0) n i there) m d here in
+          (unless (list_any (clashes d) one.0) d.name (repeated_name (map name_of_parameter d.parameters)) one.1).1);
       sound = all_at IsSoundItem t.items (tree_sound t is) n (Interface i) at;
     }
 
@@ -289,7 +314,8 @@ speaks : (i : InterfaceValue) (name : List ℕ) (d : DeclarationValue) → Decla
 speaks i name d h = by (main_form (forms_named name i)) refl
   where
     by : (o : Option DeclarationValue) → main_form (forms_named name i) ≡ o → (e : DeclarationValue) × (main_form (forms_named name i) ≡ Some e)
-    by None is = let one = filtered (λ (d : DeclarationValue). same_name name d.name) (declarations i) h.place d h.there h.named in absurd (some_main (forms_named name i) one.0 d one.1 is)
+    by None is = let one = filtered (λ (d : DeclarationValue). same_name name d.name) (declarations i) h.place d h.there h.named in
+        absurd (some_main (forms_named name i) one.0 d one.1 is)
     by (Some e) is = (e, is)
 
 agree_with : (i : InterfaceValue) (name : List ℕ) (d e : DeclarationValue) → Names_well i → Declares i name d → Declares i name e → agree d e ≡ true
@@ -297,14 +323,16 @@ agree_with i name d e well h k = well.agree h.place k.place d e h.there k.there 
 
 -- ---- members
 
-pub member_told : (i : InterfaceValue) (name : List ℕ) (names : List (List ℕ)) (id : ℤ) → slice_get (named_in i (name ∷ names)) 0 ≡ Some (Some id) → IsMember i name id
+pub member_told : (i : InterfaceValue) (name : List ℕ) (names : List (List ℕ)) (id : ℤ) → slice_get (named_in i (name ∷ names)) 0 ≡ Some (Some id)
+    → IsMember i name id
 member_told i name names id e = by (main_form (forms_named name i)) refl e
   where
     by : (o : Option DeclarationValue) → main_form (forms_named name i) ≡ o → slice_get (ids_in o (name ∷ names)) 0 ≡ Some (Some id) → IsMember i name id
     by None is h = absurd cc
     by (Some d) is h = record { declaration = d; declared = declares i name d is; has = cc }
 
-pub member_found : (i : InterfaceValue) → Names_well i → (name : List ℕ) (names : List (List ℕ)) (id : ℤ) → IsMember i name id → slice_get (named_in i (name ∷ names)) 0 ≡ Some (Some id)
+pub member_found : (i : InterfaceValue) → Names_well i → (name : List ℕ) (names : List (List ℕ)) (id : ℤ) → IsMember i name id
+    → slice_get (named_in i (name ∷ names)) 0 ≡ Some (Some id)
 member_found i well name names id h =
     let main = speaks i name h.declaration h.declared in
     let same = same_id h.declaration main.0 (agree_with i name h.declaration main.0 well h.declared (declares i name main.0 main.1)) in
@@ -341,12 +369,15 @@ parameter_name p q is =
     let d = beq (is_optional p) (is_optional q) in
     (and_parts a b (and_parts (a && b) c (and_parts ((a && b) && c) d (and_parts (((a && b) && c) && d) (same_default p.default q.default) is).0).0).0).0
 
-parameter_found : (i : InterfaceValue) → Names_well i → (n : ℕ) (d : DeclarationValue) → slice_get (declarations i) n ≡ Some d → (name : List ℕ) (k : ℕ) (p : Parameter) → slice_get (own_parameters d) k ≡ Some p → same_name name p.name ≡ true
+parameter_found : (i : InterfaceValue) → Names_well i → (n : ℕ) (d : DeclarationValue) → slice_get (declarations i) n ≡ Some d
+    → (name : List ℕ) (k : ℕ) (p : Parameter) → slice_get (own_parameters d) k ≡ Some p → same_name name p.name ≡ true
     → parameter_named (own_parameters d) name ≡ Some (pos k)
 parameter_found i well n d at name k p there is =
     let first = has_position (λ (p : Parameter). same_name name p.name) (own_parameters d) k p there is in
     let one = position_in (λ (p : Parameter). same_name name p.name) (own_parameters d) first.0 first.1 in
-    let place = one_place [] (map name_of_parameter d.parameters) (well.once n d at) first.0 k one.0.name p.name (named_at d.parameters first.0 one.0 (own_at d first.0 one.0 one.1)) (named_at d.parameters k p (own_at d k p there)) (name_both name one.0.name p.name one.2 is) in
+    let place = one_place [] (map name_of_parameter d.parameters) (well.once n d at) first.0 k one.0.name p.name
+    (named_at d.parameters first.0 one.0 (own_at d first.0 one.0 one.1)) (named_at d.parameters k p (own_at d k p there))
+    (name_both name one.0.name p.name one.2 is) in
     let few : length d.parameters ≤ max_parameters = (all_at IsSoundDeclaration (declarations i) well.sound n d at).few in
     let within : k < length d.parameters = slice_get_within d.parameters k p (own_at d k p there) in
     ap (option_and_then place_as_id) first.1 ∙ ap place_as_id place ∙ as_id k (omega (arith, few, within))
@@ -365,21 +396,28 @@ parameter_told d name id e = by (position (λ (p : Parameter). same_name name p.
 answer_at : (f : List ℕ → Option ℤ) (names : List (List ℕ)) (n : ℕ) (name : List ℕ) → slice_get names n ≡ Some name → slice_get (map f names) n ≡ Some (f name)
 answer_at f names n name at = slice_get-map f names n ∙ ap (option_map f) at
 
-pub parameters_told : (i : InterfaceValue) (member : List ℕ) (names : List (List ℕ)) (n : ℕ) (name : List ℕ) (id : ℤ) → slice_get names n ≡ Some name → slice_get (named_in i (member ∷ names)) (suc n) ≡ Some (Some id) → IsParameterOf i member name id
+pub parameters_told : (i : InterfaceValue) (member : List ℕ) (names : List (List ℕ)) (n : ℕ) (name : List ℕ) (id : ℤ) → slice_get names n ≡ Some name
+    → slice_get (named_in i (member ∷ names)) (suc n) ≡ Some (Some id) → IsParameterOf i member name id
 parameters_told i member names n name id at e = by (main_form (forms_named member i)) refl e
   where
-    by : (o : Option DeclarationValue) → main_form (forms_named member i) ≡ o → slice_get (ids_in o (member ∷ names)) (suc n) ≡ Some (Some id) → IsParameterOf i member name id
+    by : (o : Option DeclarationValue) → main_form (forms_named member i) ≡ o → slice_get (ids_in o (member ∷ names)) (suc n) ≡ Some (Some id)
+        → IsParameterOf i member name id
     by None is h = let z = inside None (Some id) (sym (answer_at (λ _. None) names n name at) ∙ h) in absurd cc
     by (Some d) is h =
-        let one = parameter_told d name id (inside (parameter_named (own_parameters d) name) (Some id) (sym (answer_at (parameter_named (own_parameters d)) names n name at) ∙ h)) in
+        let one =
+        parameter_told d name id (inside (parameter_named (own_parameters d) name) (Some id)
+        (sym (answer_at (parameter_named (own_parameters d)) names n name at) ∙ h)) in
         record { declaration = d; declared = declares i member d is; place = one.0; parameter = one.1; there = one.2; named = one.3; has = one.4 }
 
-pub parameters_found : (i : InterfaceValue) → Names_well i → (member : List ℕ) (names : List (List ℕ)) (n : ℕ) (name : List ℕ) (id : ℤ) → slice_get names n ≡ Some name → IsParameterOf i member name id → slice_get (named_in i (member ∷ names)) (suc n) ≡ Some (Some id)
+pub parameters_found : (i : InterfaceValue) → Names_well i → (member : List ℕ) (names : List (List ℕ)) (n : ℕ) (name : List ℕ) (id : ℤ)
+    → slice_get names n ≡ Some name → IsParameterOf i member name id → slice_get (named_in i (member ∷ names)) (suc n) ≡ Some (Some id)
 parameters_found i well member names n name id at h =
     let main = speaks i member h.declaration h.declared in
     let speaker = declares i member main.0 main.1 in
-    let one = pointwise_at same_parameter (own_parameters h.declaration) (own_parameters main.0) (same_parameters h.declaration main.0 (agree_with i member h.declaration main.0 well h.declared speaker)) h.place h.parameter h.there in
+    let one = pointwise_at same_parameter (own_parameters h.declaration) (own_parameters main.0)
+    (same_parameters h.declaration main.0 (agree_with i member h.declaration main.0 well h.declared speaker)) h.place h.parameter h.there in
     let named = name_both h.parameter.name name one.0.name (name_symm h.parameter.name name ∙ h.named) (parameter_name h.parameter one.0 one.2) in
     ap (λ (o : Option DeclarationValue). slice_get (ids_in o (member ∷ names)) (suc n)) main.1
     ∙ answer_at (parameter_named (own_parameters main.0)) names n name at
-    ∙ ap (λ (o : Option ℤ). Some o) (parameter_found i well speaker.place main.0 speaker.there name h.place one.0 one.1 named ∙ ap (λ (z : ℤ). Some z) (sym h.has))
+    ∙ ap (λ (o : Option ℤ). Some o) (parameter_found i well speaker.place main.0 speaker.there name h.place one.0 one.1 named
+    ∙ ap (λ (z : ℤ). Some z) (sym h.has))

@@ -6,14 +6,14 @@ use Rattle.std.proofs.lemmas.Bool.Decides.{nat_tests}
 use Rattle.std.specs.Cmp.Lexicographic.{same_text}
 use Rattle.std.specs.List.{list_any, list_all, filter_map, cons_option, flat_map}
 use Rattle.std.specs.Option.{option_and_then, option_map_or, option_or}
-use Rattle.oa_model.specs.Types.{vt_of, type_at, vt_of_value}
+use Rattle.oa_model.specs.promise.Types.{vt_of, type_at, vt_of_value}
 use Rattle.oa_model.specs.declared.var_type.VarType.{VarType}
 use Rattle.oa_model.specs.declared.var_type.VarType.TheVariants as types
 use Rattle.oa_model.specs.declared.var_type.ValueType.{ValueType}
 use Rattle.oa_model.specs.declared.var_type.ValueType.TheVariants.{One, Array}
-use Rattle.oa_checks.specs.Agreement.{same_value_type, same_result}
-use Rattle.oa_checks.specs.Libraries.{same}
-use Rattle.oa_checks.specs.Repeats.{first_answer}
+use Rattle.oa_sema.specs.promise.Agreement.{same_value_type, same_result}
+use Rattle.oa_sema.specs.promise.Libraries.{same}
+use Rattle.oa_sema.specs.promise.Repeats.{first_answer}
 use Rattle.oa_typelib.proofs.Sound.{neither}
 
 pub inside : {X : Type 0} (x y : X) → Some x ≡ Some y → x ≡ y
@@ -42,23 +42,28 @@ answer_append f [] ys = refl
 answer_append f (x ∷ xs) ys = ap (option_or (f x)) (answer_append f xs ys) ∙ sym (or_more (f x) (first_answer f xs) (first_answer f ys))
 
 -- For the results of a function.
-pub answer_mapped : {X Y Z : Type 0} (f : Y → Option Z) (g : X → Option Y) (xs : List X) → first_answer f (filter_map g xs) ≡ first_answer (λ x. option_and_then f (g x)) xs
+pub answer_mapped : {X Y Z : Type 0} (f : Y → Option Z) (g : X → Option Y) (xs : List X)
+    → first_answer f (filter_map g xs) ≡ first_answer (λ x. option_and_then f (g x)) xs
 unfolding first_answer
 answer_mapped f g [] = refl
 answer_mapped f g (x ∷ xs) = by (g x) (answer_mapped f g xs)
   where
-    by : (o : Option _) → first_answer f (filter_map g xs) ≡ first_answer (λ x. option_and_then f (g x)) xs → first_answer f (cons_option o (filter_map g xs)) ≡ option_or (option_and_then f o) (first_answer (λ x. option_and_then f (g x)) xs)
+    by : (o : Option _) → first_answer f (filter_map g xs) ≡ first_answer (λ x. option_and_then f (g x)) xs
+        → first_answer f (cons_option o (filter_map g xs)) ≡ option_or (option_and_then f o) (first_answer (λ x. option_and_then f (g x)) xs)
     by None h = h
     by (Some y) h = ap (option_or (f y)) h
 
 -- of lists that are put together
-pub answer_flat : {X Y Z : Type 0} (f : Y → Option Z) (g : X → List Y) (xs : List X) → first_answer f (flat_map g xs) ≡ first_answer (λ x. first_answer f (g x)) xs
+pub answer_flat : {X Y Z : Type 0} (f : Y → Option Z) (g : X → List Y) (xs : List X)
+    → first_answer f (flat_map g xs) ≡ first_answer (λ x. first_answer f (g x)) xs
 unfolding first_answer
 answer_flat f g [] = refl
 answer_flat f g (x ∷ xs) = answer_append f (g x) (flat_map g xs) ∙ ap (option_or (first_answer f (g x))) (answer_flat f g xs)
 
 -- For the rest of a list from a place on.
-pub answer_here : {X Y Z : Type 0} (f : Y → Option Z) (g : X → Option Y) (xs : List X) (n : ℕ) → n < length xs → first_answer f (filter_map g (drop n xs)) ≡ option_or (option_and_then f (option_and_then g (slice_get xs n))) (first_answer f (filter_map g (drop (suc n) xs)))
+pub answer_here : {X Y Z : Type 0} (f : Y → Option Z) (g : X → Option Y) (xs : List X) (n : ℕ) → n < length xs
+    → first_answer f (filter_map g (drop n xs)) ≡ option_or (option_and_then f (option_and_then g (slice_get xs n)))
+    (first_answer f (filter_map g (drop (suc n) xs)))
 unfolding first_answer
 answer_here f g [] n h = absurd (omega (arith, h))
 answer_here f g (x ∷ xs) zero h = by (g x)
@@ -68,7 +73,8 @@ answer_here f g (x ∷ xs) zero h = by (g x)
     by (Some y) = refl
 answer_here f g (x ∷ xs) (suc n) h = answer_here f g xs n (omega (arith, h))
 
-pub all_here : {X Y : Type 0} (p : Y → Bool) (g : X → Option Y) (xs : List X) (n : ℕ) → n < length xs → list_all p (filter_map g (drop n xs)) ≡ (option_map_or p (option_and_then g (slice_get xs n)) true && list_all p (filter_map g (drop (suc n) xs)))
+pub all_here : {X Y : Type 0} (p : Y → Bool) (g : X → Option Y) (xs : List X) (n : ℕ) → n < length xs
+    → list_all p (filter_map g (drop n xs)) ≡ (option_map_or p (option_and_then g (slice_get xs n)) true && list_all p (filter_map g (drop (suc n) xs)))
 all_here p g [] n h = absurd (omega (arith, h))
 all_here p g (x ∷ xs) zero h = by (g x)
   where
@@ -83,7 +89,8 @@ pub any_at : {X : Type 0} (test : X → Bool) (xs : List X) → list_any test xs
 any_at {X = X} test [] e = absurd (true≢false (sym e))
 any_at {X = X} test (x ∷ xs) e = by (test x) refl e (any_at test xs)
   where
-    by : (b : Bool) → test x ≡ b → (b || list_any test xs) ≡ true → (list_any test xs ≡ true → (n : ℕ) × (y : X) × (slice_get xs n ≡ Some y) × (test y ≡ true)) → (n : ℕ) × (y : X) × (slice_get (x ∷ xs) n ≡ Some y) × (test y ≡ true)
+    by : (b : Bool) → test x ≡ b → (b || list_any test xs) ≡ true → (list_any test xs ≡ true → (n : ℕ) × (y : X) × (slice_get xs n ≡ Some y) × (test y ≡ true))
+        → (n : ℕ) × (y : X) × (slice_get (x ∷ xs) n ≡ Some y) × (test y ≡ true)
     by true is h rest = (zero, x, refl, is)
     by false is h rest = let r = rest h in (suc r.0, r.1, r.2, r.3)
 
@@ -115,12 +122,14 @@ in_mapped {X = X} {Y = Y} f (x ∷ xs) n y h = by (f x) refl n (λ m k. in_mappe
     later : Came f xs y → Came f (x ∷ xs) y
     later r = (suc r.0, r.1, r.2, r.3)
 
-    by : (o : Option Y) → f x ≡ o → (n : ℕ) → ((m : ℕ) → slice_get (filter_map f xs) m ≡ Some y → Came f xs y) → slice_get (cons_option o (filter_map f xs)) n ≡ Some y → Came f (x ∷ xs) y
+    by : (o : Option Y) → f x ≡ o → (n : ℕ) → ((m : ℕ) → slice_get (filter_map f xs) m ≡ Some y → Came f xs y)
+        → slice_get (cons_option o (filter_map f xs)) n ≡ Some y → Came f (x ∷ xs) y
     by None is n rest k = later (rest n k)
     by (Some z) is zero rest k = (zero, x, refl, is ∙ k)
     by (Some z) is (suc n) rest k = later (rest n k)
 
-pub mapped_in : {X Y : Type 0} (f : X → Option Y) (xs : List X) (n : ℕ) (x : X) (y : Y) → slice_get xs n ≡ Some x → f x ≡ Some y → (m : ℕ) × (slice_get (filter_map f xs) m ≡ Some y)
+pub mapped_in : {X Y : Type 0} (f : X → Option Y) (xs : List X) (n : ℕ) (x : X) (y : Y) → slice_get xs n ≡ Some x → f x ≡ Some y → (m : ℕ)
+    × (slice_get (filter_map f xs) m ≡ Some y)
 mapped_in {Y = Y} f [] n x y h is = absurd cc
 mapped_in {Y = Y} f (z ∷ xs) zero x y h is = (zero, rw (ap f (inside z x h) ∙ is) refl)
 mapped_in {Y = Y} f (z ∷ xs) (suc n) x y h is = by (f z) (mapped_in f xs n x y h is)
@@ -133,7 +142,8 @@ pub found_at : {X : Type 0} (test : X → Bool) (xs : List X) (x : X) → find t
 found_at {X = X} test [] x h = absurd cc
 found_at {X = X} test (y ∷ ys) x h = by (test y) refl h (found_at test ys x)
   where
-    by : (b : Bool) → test y ≡ b → cond b (Some y) (find test ys) ≡ Some x → (find test ys ≡ Some x → (n : ℕ) × (slice_get ys n ≡ Some x) × (test x ≡ true)) → (n : ℕ) × (slice_get (y ∷ ys) n ≡ Some x) × (test x ≡ true)
+    by : (b : Bool) → test y ≡ b → cond b (Some y) (find test ys) ≡ Some x → (find test ys ≡ Some x → (n : ℕ) × (slice_get ys n ≡ Some x) × (test x ≡ true))
+        → (n : ℕ) × (slice_get (y ∷ ys) n ≡ Some x) × (test x ≡ true)
     by true is k rest = (zero, k, ap test (sym (inside y x k)) ∙ is)
     by false is k rest = let r = rest k in (suc r.0, r.1, r.2)
 
@@ -149,43 +159,11 @@ are_same a b e = same_text a b (sym e)
 
 type_back : (t : VarType) → type_at (vt_of t) ≡ Some t
 type_back types.Empty = refl
-type_back types.Null = refl
-type_back types.I2 = refl
-type_back types.I4 = refl
-type_back types.Cy = refl
-type_back types.Bstr = refl
-type_back types.Error = refl
-type_back types.Bool = refl
-type_back types.Variant = refl
-type_back types.Decimal = refl
-type_back types.I1 = refl
-type_back types.Ui1 = refl
-type_back types.Ui2 = refl
-type_back types.Ui4 = refl
-type_back types.I8 = refl
-type_back types.Ui8 = refl
-type_back types.Int = refl
-type_back types.Uint = refl
+type_back t = refl
 
 vt_small : (t : VarType) → vt_of t ≤ 23
 vt_small types.Empty = omega arith
-vt_small types.Null = omega arith
-vt_small types.I2 = omega arith
-vt_small types.I4 = omega arith
-vt_small types.Cy = omega arith
-vt_small types.Bstr = omega arith
-vt_small types.Error = omega arith
-vt_small types.Bool = omega arith
-vt_small types.Variant = omega arith
-vt_small types.Decimal = omega arith
-vt_small types.I1 = omega arith
-vt_small types.Ui1 = omega arith
-vt_small types.Ui2 = omega arith
-vt_small types.Ui4 = omega arith
-vt_small types.I8 = omega arith
-vt_small types.Ui8 = omega arith
-vt_small types.Int = omega arith
-vt_small types.Uint = omega arith
+vt_small t = omega arith
 
 equal_numbers : (m n : ℕ) → nat_eq m n ≡ true → m ≡ n
 equal_numbers m n e = grind (arith, nat_tests, e)

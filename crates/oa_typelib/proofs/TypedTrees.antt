@@ -3,26 +3,27 @@ use Rattle.std.proofs.Common.{◌≡◌, ◌==◌, slice_get, true≢false, refl
 use Rattle.std.proofs.Common.{if◌then◌else◌, List, [], ◌∷◌, ◌++◌, map, Option, Some, None, is_some, IsSome, IfSome}
 use Rattle.std.proofs.lemmas.Option.{none-some}
 use Rattle.std.specs.List.{AllByRecursion}
-use Rattle.oa_model.specs.Types.{sf_type_of}
+use Rattle.oa_model.specs.promise.Types.{sf_type_of}
 use Rattle.oa_model.specs.declared.var_type.VarType.{VarType}
 use Rattle.oa_model.specs.declared.var_type.ValueType.{ValueType}
 use Rattle.oa_model.specs.declared.var_type.ValueType.TheVariants.{One, Array}
 use Rattle.oa_variant.specs.Variants.{HasZero}
-use Rattle.oa_idl.specs.Forms.{Word, Form, listed, nowhere}
-use Rattle.oa_idl.specs.Words.{word_type, type_named, if_cell}
-use Rattle.oa_idl.specs.Grammar.{value_type, property, result_type, parameter, separated, method, methods, members, entry}
-use Rattle.oa_idl.specs.Grammar.{entry_grow, last_entry, no_entry, item, LibraryContent, element, elements, items_in, library}
-use Rattle.oa_idl.specs.Grammar.LibraryContent.{Import, OfItem}
-use Rattle.oa_idl.specs.Trees.{TreeValue}
-use Rattle.oa_idl.specs.MethodValues.{MethodValue}
+use Rattle.oa_idl.specs.promise.Forms.{Word, Language, listed, nowhere}
+use Rattle.oa_idl.specs.promise.Words.{word_type, type_named, if_cell}
+use Rattle.oa_idl.specs.promise.Grammar.{value_type, property, result_type, parameter, separated, method, methods}
+use Rattle.oa_idl.specs.promise.Grammar.{members, entry, entry_grow, last_entry, no_entry, item, LibraryContent}
+use Rattle.oa_idl.specs.promise.Grammar.{element, library_contents, items_in, library}
+use Rattle.oa_idl.specs.promise.Grammar.LibraryContent.{Import, OfItem}
+use Rattle.oa_idl.specs.promise.Trees.{TreeValue}
+use Rattle.oa_idl.specs.promise.MethodValues.{MethodValue}
 use Rattle.oa_idl.specs.declared.parts.Entry.{Entry}
 use Rattle.oa_idl.specs.declared.parts.MethodKind.{MethodKind}
 use Rattle.oa_idl.specs.declared.parts.Parameter.{Parameter}
 use Rattle.oa_idl.specs.declared.parts.Property.{Property}
 use Rattle.oa_idl.specs.declared.items.Item.{Item}
 use Rattle.oa_idl.specs.declared.items.Item.TheVariants.{Interface, Coclass}
-use Rattle.oa_checks.specs.Declarations.{of_property, of_method}
-use Rattle.oa_checks.specs.Libraries.{marked, marked_item}
+use Rattle.oa_sema.specs.promise.Declarations.{of_property, of_method}
+use Rattle.oa_sema.specs.promise.Libraries.{marked, marked_item}
 use Rattle.oa_typelib.specs.Typed.{IsTypedDeclaration, IsTypedItem, IsTyped, IsOfText}
 
 -- a word that names the type of cells
@@ -51,13 +52,14 @@ type_typed (One t) ws f = tt
 type_typed (Array t) ws f = ⊎_elim (λ u. word_typed true t u.second.word u.second.is) (λ o. word_typed false t o.word o.is) f.second.second.first
 
 -- A property of each form of a list holds for each of its entries.
-listed_all : {S A B : Type 0} (F : S → A → Form) (grow : S → A → S) (apart : A → Word → Bool) (E : S → B → Form) (P : A → Type 0)
-    → ((s : S) (x : A) (ws : List Word) → F s x ws → P x) → (s : S) (xs : List A) (b : B) (ws : List Word) → listed F grow apart E s xs b ws → AllByRecursion P xs
+listed_all : {S A B : Type 0} (F : S → A → Language) (grow : S → A → S) (apart : A → Word → Bool) (E : S → B → Language) (P : A → Type 0)
+    → ((s : S) (x : A) (ws : List Word) → F s x ws → P x) → (s : S) (xs : List A) (b : B) (ws : List Word) → listed F grow apart E s xs b ws
+    → AllByRecursion P xs
 listed_all F grow apart E P each s [] b ws l = tt
 listed_all F grow apart E P each s (x ∷ xs) b ws l = (each s x l.front l.first, listed_all F grow apart E P each (grow s x) xs b l.second.back l.second.second)
 
 -- A property of each form of the end holds for the end.
-listed_end : {S A B : Type 0} (F : S → A → Form) (grow : S → A → S) (apart : A → Word → Bool) (E : S → B → Form) (P : B → Type 0)
+listed_end : {S A B : Type 0} (F : S → A → Language) (grow : S → A → S) (apart : A → Word → Bool) (E : S → B → Language) (P : B → Type 0)
     → ((s : S) (b : B) (ws : List Word) → E s b ws → P b) → (s : S) (xs : List A) (b : B) (ws : List Word) → listed F grow apart E s xs b ws → P b
 listed_end F grow apart E P each s [] b ws l = each s b ws l
 listed_end F grow apart E P each s (x ∷ xs) b ws l = listed_end F grow apart E P each (grow s x) xs b l.second.back l.second.second
@@ -91,12 +93,14 @@ methods_typed n ms ws f = ⊎_elim
     (λ none. subst (AllByRecursion (λ (m : MethodValue). IsTypedDeclaration (of_method m))) (sym none.0) tt) f
 
 -- A property of two lists holds for both, one after the other.
-both_typed : (ps : List Property) (ms : List MethodValue) → AllByRecursion (λ p. IsTypedDeclaration (of_property p)) ps → AllByRecursion (λ m. IsTypedDeclaration (of_method m)) ms → AllByRecursion IsTypedDeclaration (map of_property ps ++ map of_method ms)
+both_typed : (ps : List Property) (ms : List MethodValue) → AllByRecursion (λ p. IsTypedDeclaration (of_property p)) ps
+    → AllByRecursion (λ m. IsTypedDeclaration (of_method m)) ms → AllByRecursion IsTypedDeclaration (map of_property ps ++ map of_method ms)
 both_typed (p ∷ ps) ms all rest = (all.0, both_typed ps ms all.1 rest)
 both_typed [] [] all rest = tt
 both_typed [] (m ∷ ms) all rest = (rest.0, both_typed [] ms tt rest.1)
 
-members_typed : (ps : List Property) (ms : List MethodValue) (ws : List Word) → members ps ms ws → AllByRecursion IsTypedDeclaration (map of_property ps ++ map of_method ms)
+members_typed : (ps : List Property) (ms : List MethodValue) (ws : List Word) → members ps ms ws
+    → AllByRecursion IsTypedDeclaration (map of_property ps ++ map of_method ms)
 members_typed ps ms ws f = ⊎_elim
     (λ l. both_typed ps ms
     (listed_all _ _ _ _ (λ (p : Property). IsTypedDeclaration (of_property p)) (λ n. property_typed) 0 ps ms l.second.back l.second.second)
@@ -104,7 +108,8 @@ members_typed ps ms ws f = ⊎_elim
     (λ r. both_typed ps ms (subst (AllByRecursion (λ (p : Property). IsTypedDeclaration (of_property p))) (sym r.0) tt) (methods_typed 0 ms ws r.1)) f
 
 item_typed : (x : Item) (ws : List Word) → item x ws → IsTypedItem x
-item_typed (Interface d) ws f = let body = f.form.second.1 in members_typed d.properties d.methods body.second.second.second.front body.second.second.second.first
+item_typed (Interface d) ws f = let body = f.form.second.1 in
+    members_typed d.properties d.methods body.second.second.second.front body.second.second.second.first
 item_typed (Coclass c) ws f = tt
 
 -- A property of each item of the grammar holds for each item of a tree.
@@ -123,9 +128,10 @@ module _ (P : Item → Type 0) (each : (x : Item) (ws : List Word) → item x ws
   items_all (Import ∷ es) all = items_all es all.1
   items_all (OfItem x ∷ es) all = (all.0, items_all es all.1)
 
-  elements_all : (xs : List Item) (ws : List Word) → elements xs ws → AllByRecursion P xs
-  unfolding elements
-  elements_all xs ws f = subst (AllByRecursion P) (sym f.form.second.fact) (items_all f.value (listed_all _ _ _ _ OfContent (λ s. content_all) _ f.value tt f.form.front f.form.first))
+  elements_all : (xs : List Item) (ws : List Word) → library_contents xs ws → AllByRecursion P xs
+  unfolding library_contents
+  elements_all xs ws f = subst (AllByRecursion P) (sym f.form.second.fact)
+      (items_all f.value (listed_all _ _ _ _ OfContent (λ s. content_all) _ f.value tt f.form.front f.form.first))
 
   pub tree_all : (t : TreeValue) (ws : List Word) → library t ws → AllByRecursion P t.items
   tree_all t ws f = elements_all t.items f.second.second.second.second.front f.second.second.second.second.first

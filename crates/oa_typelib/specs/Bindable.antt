@@ -2,18 +2,18 @@
 -- scalar whose default is a value of its type, and the property's type has a zero value.
 use Rattle.std.specs.Prelude.{◌≡◌, ◌≤◌, false, List, length, IfSome, IsSome}
 use Rattle.std.specs.List.{AllByRecursion}
-use Rattle.oa_model.specs.Limits.{max_parameters}
+use Rattle.oa_model.specs.promise.Limits.{max_parameters}
 use Rattle.oa_model.specs.declared.var_type.ValueType.{ValueType}
 use Rattle.oa_model.specs.declared.var_type.ValueType.TheVariants.{One, Array}
 use Rattle.oa_idl.specs.declared.parts.Parameter.{Parameter}
 use Rattle.oa_idl.specs.declared.items.Item.{Item}
 use Rattle.oa_idl.specs.declared.items.Item.TheVariants.{Interface, Coclass}
 use Rattle.oa_variant.specs.Variants.{HasZero}
-use Rattle.oa_checks.specs.DeclarationValues.{DeclarationValue}
-use Rattle.oa_checks.specs.Declarations.{declarations, own_parameters, type_of_value}
-use Rattle.oa_checks.specs.Defaults.{default_of}
-use Rattle.oa_typelib.specs.Members.{is_method}
-use Rattle.oa_typelib.specs.MemberValues.{MemberValue}
+use Rattle.oa_sema.specs.promise.DeclarationValues.{DeclarationValue}
+use Rattle.oa_sema.specs.promise.Declarations.{declarations, own_parameters, type_of_value}
+use Rattle.oa_sema.specs.promise.Defaults.{default_of}
+use Rattle.oa_typelib.specs.promise.Members.{is_method}
+use Rattle.oa_typelib.specs.promise.MemberValues.{MemberValue}
 
 -- The type is a scalar type.
 abbrev pub IsOne : ValueType → Type 0

@@ -1,19 +1,13 @@
--- The trees of libraries.
-use Rattle.std.specs.Prelude.{ℕ, List, IsSome, IfSome}
+-- Definitions for contracts and proofs, beside promise/Checked.
+use Rattle.std.specs.Prelude.{List, IsSome, IfSome}
 use Rattle.std.specs.List.{AllByRecursion}
-use Rattle.oa_idl.specs.Trees.{TreeValue}
-use Rattle.oa_idl.specs.Values.{CoclassValue}
+use Rattle.oa_idl.specs.promise.Trees.{TreeValue}
+use Rattle.oa_idl.specs.promise.Values.{CoclassValue}
 use Rattle.oa_idl.specs.declared.parts.Entry.{Entry}
 use Rattle.oa_idl.specs.declared.items.Item.{Item}
 use Rattle.oa_typelib.specs.Bindable.{IsSoundItem}
-use Rattle.oa_typelib.specs.Descriptions.{entry_description, interfaces_of}
-use Rattle.oa_checks.specs.IsLibrary.{IsLibrary}
-use Rattle.oa_checks.specs.Libraries.{as_class, default_interface}
-
--- The tree is that of a library: it is parsed from some text, passes all checks, and one default interface is marked in
--- each coclass.
-abbrev pub IsChecked : TreeValue → Type 0
-IsChecked tree = (text : List ℕ) × IsLibrary text tree
+use Rattle.oa_typelib.specs.promise.Descriptions.{entry_description, interfaces_of}
+use Rattle.oa_sema.specs.promise.Libraries.{as_class, default_interface}
 
 -- The coclass has a default interface, and each of its entries has a description, so that its description omits none.
 pub record IsClass (items : List Item) (c : CoclassValue) : Type 0 where

@@ -4,8 +4,8 @@ use Rattle.oa_typelib.specs.declared.described.Content.{Content}
 use Rattle.oa_typelib.specs.declared.described.Content.TheVariants.{Interface, Coclass}
 use Rattle.oa_typelib.specs.declared.described.DescribeError.{DescribeError}
 use Rattle.oa_typelib.specs.declared.described.DescribeError.TheVariants.{BadIndex, Memory}
-use Rattle.oa_typelib.specs.DescriptionValues.{ContentDescription, DescriptionValue}
-use Rattle.oa_typelib.specs.DescriptionValues.ContentDescription.{OfInterface, OfCoclass}
+use Rattle.oa_typelib.specs.promise.DescriptionValues.{ContentDescription, DescriptionValue}
+use Rattle.oa_typelib.specs.promise.DescriptionValues.ContentDescription.{OfInterface, OfCoclass}
 
 -- The content as contracts see it.
 abbrev pub content_of : Content → ContentDescription

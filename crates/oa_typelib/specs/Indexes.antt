@@ -4,23 +4,24 @@ use Rattle.std.specs.Prelude.{position, slice_get}
 use Rattle.std.specs.List.{filter_map, list_any}
 use Rattle.std.specs.Option.{option_and_then, unwrap_or}
 use Rattle.std.specs.Ordering.{int_eq}
-use Rattle.oa_model.specs.Folding.{folded_name}
-use Rattle.oa_idl.specs.Trees.{TreeValue}
-use Rattle.oa_idl.specs.Values.{InterfaceValue, CoclassValue}
+use Rattle.oa_model.specs.promise.Folding.{folded_name}
+use Rattle.oa_idl.specs.promise.Trees.{TreeValue}
+use Rattle.oa_idl.specs.promise.Values.{InterfaceValue, CoclassValue}
 use Rattle.oa_idl.specs.declared.parts.Entry.{Entry}
 use Rattle.oa_idl.specs.declared.items.Item.{Item}
 use Rattle.oa_idl.specs.declared.items.Item.TheVariants.{Interface, Coclass}
-use Rattle.oa_canonical.specs.Canonical.{canonical}
-use Rattle.oa_checks.specs.declared.declaration.DeclarationKind.{DeclarationKind}
-use Rattle.oa_checks.specs.DeclarationValues.{DeclarationValue}
-use Rattle.oa_checks.specs.Declarations.{declarations, is_put}
-use Rattle.oa_checks.specs.Defaults.{defaults_of}
-use Rattle.oa_typelib.specs.DescriptionValues.{EntryDescription, DescriptionValue}
-use Rattle.oa_typelib.specs.DescriptionValues.ContentDescription.{OfCoclass}
-use Rattle.oa_typelib.specs.Descriptions.{described_entry, interfaces_of}
+use Rattle.oa_printer.specs.promise.Canonical.{canonical}
+use Rattle.oa_sema.specs.declared.declaration.DeclarationKind.{DeclarationKind}
+use Rattle.oa_sema.specs.promise.DeclarationValues.{DeclarationValue}
+use Rattle.oa_sema.specs.promise.Declarations.{declarations, is_put}
+use Rattle.oa_sema.specs.Defaults.{defaults_of}
+use Rattle.oa_typelib.specs.promise.DescriptionValues.{EntryDescription, DescriptionValue}
+use Rattle.oa_typelib.specs.promise.DescriptionValues.ContentDescription.{OfCoclass}
+use Rattle.oa_typelib.specs.promise.Descriptions.{described_entry, interfaces_of}
 use Rattle.oa_typelib.specs.Groups.{GroupsValue, keys_with_places, places_in}
 use Rattle.oa_typelib.specs.IndexValues.{MembersValue, IndexValue}
-use Rattle.oa_checks.specs.Libraries.{same, item_guid, folded_names}
+use Rattle.oa_sema.specs.promise.Libraries.{same, item_guid}
+use Rattle.oa_sema.specs.Libraries.{folded_names}
 
 -- The place in a list of folded names of the interface that the default entry names.
 abbrev pub default_among : List (List ℕ) → List Entry → Option ℕ

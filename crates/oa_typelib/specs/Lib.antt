@@ -1,15 +1,10 @@
 pub mod Bindable
 pub mod Checked
 pub mod Contents
-pub mod DescriptionValues
-pub mod Descriptions
 pub mod Groups
 pub mod IndexValues
 pub mod Indexes
 pub mod MemberCodes
-pub mod MemberValues
-pub mod Members
-pub mod NamedValues
-pub mod Names
 pub mod Naming
 pub mod Typed
+pub mod promise

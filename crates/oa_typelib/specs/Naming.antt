@@ -1,11 +1,11 @@
 -- The meaning of a name in an interface, stated without a search (MS-OAUT section 3.1.4.3).
 use Rattle.std.specs.Prelude.{◌≡◌, ◌↔◌, ◌∷◌, ℕ, suc, ℤ, pos, true, List, Some, slice_get}
-use Rattle.oa_idl.specs.Values.{InterfaceValue}
+use Rattle.oa_idl.specs.promise.Values.{InterfaceValue}
 use Rattle.oa_idl.specs.declared.parts.Parameter.{Parameter}
-use Rattle.oa_checks.specs.DeclarationValues.{DeclarationValue}
-use Rattle.oa_checks.specs.Declarations.{declarations, own_parameters}
-use Rattle.oa_checks.specs.Libraries.{same_name}
-use Rattle.oa_typelib.specs.Names.{named_in}
+use Rattle.oa_sema.specs.promise.DeclarationValues.{DeclarationValue}
+use Rattle.oa_sema.specs.promise.Declarations.{declarations, own_parameters}
+use Rattle.oa_sema.specs.promise.Libraries.{same_name}
+use Rattle.oa_typelib.specs.promise.Names.{named_in}
 
 -- The interface has a declaration `d` with this name, without regard to the case of A to Z.
 pub record Declares (i : InterfaceValue) (name : List ℕ) (d : DeclarationValue) : Type 0 where

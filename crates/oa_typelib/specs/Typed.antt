@@ -1,14 +1,14 @@
 -- The types that a library declares.
 use Rattle.std.specs.Prelude.{List, ℕ, IfSome}
 use Rattle.std.specs.List.{AllByRecursion}
-use Rattle.oa_idl.specs.IsTree.{IsTree}
-use Rattle.oa_idl.specs.Trees.{TreeValue}
+use Rattle.oa_idl.specs.promise.IsTree.{IsTree}
+use Rattle.oa_idl.specs.promise.Trees.{TreeValue}
 use Rattle.oa_idl.specs.declared.parts.Parameter.{Parameter}
 use Rattle.oa_idl.specs.declared.items.Item.{Item}
 use Rattle.oa_idl.specs.declared.items.Item.TheVariants.{Interface, Coclass}
 use Rattle.oa_variant.specs.Variants.{HasZero}
-use Rattle.oa_checks.specs.DeclarationValues.{DeclarationValue}
-use Rattle.oa_checks.specs.Declarations.{declarations}
+use Rattle.oa_sema.specs.promise.DeclarationValues.{DeclarationValue}
+use Rattle.oa_sema.specs.promise.Declarations.{declarations}
 
 -- The tree is parsed from some text.
 abbrev pub IsOfText : TreeValue → Type 0

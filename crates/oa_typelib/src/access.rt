@@ -1,9 +1,9 @@
 //! Which form of a member a call uses, and why there may be none.
 ghost use Rattle.std.specs.Prelude.{◌≡◌};
-ghost use Rattle.oa_typelib.specs.Members.{is_method, kind_asked, lets, method_fault};
+ghost use Rattle.oa_typelib.specs.promise.Members.{is_method, kind_asked, lets, method_fault};
 
-use oa_checks::DeclarationKind;
 use oa_model::{GET_FLAG, METHOD_FLAG, PUT_FLAG};
+use oa_sema::DeclarationKind;
 use thiserror::Error;
 
 /// The form of a property that a call uses.
@@ -18,7 +18,8 @@ pub enum Kind {
 /// How a call chooses the form of the property.
 #[derive(Clone, Copy, Debug, PartialEq, Eq)]
 pub enum Access {
-    /// By the flags of a call of Invoke (MS-OAUT section 3.1.4.4): METHOD 1, PROPERTYGET 2, PROPERTYPUT 4, PROPERTYPUTREF 8.
+    /// By the flags of a call of Invoke (MS-OAUT section 3.1.4.4): METHOD 1, PROPERTYGET 2,
+    /// PROPERTYPUT 4, PROPERTYPUTREF 8.
     Flags(u16),
     /// The get form, whatever the flags are.
     Get,
@@ -27,8 +28,8 @@ pub enum Access {
 }
 
 impl Access {
-    /// Returns the form of the property that the call uses. With flags: a put if PROPERTYPUT is set, otherwise a get if PROPERTYGET is set,
-    /// otherwise None. Other bits are ignored.
+    /// Returns the form of the property that the call uses. With flags: a put if PROPERTYPUT is
+    /// set, otherwise a get if PROPERTYGET is set, otherwise None. Other bits are ignored.
     pub fn kind(self) -> Option<Kind>
         ensures { result ≡ kind_asked self }
     {
@@ -47,7 +48,8 @@ impl Access {
         }
     }
 
-    /// Returns the error of a call of a method: `NotImplemented` if METHOD is set and PROPERTYPUT is not, otherwise `MemberNotFound`.
+    /// Returns the error of a call of a method: `NotImplemented` if METHOD is set and PROPERTYPUT
+    /// is not, otherwise `MemberNotFound`.
     pub(crate) fn of_method(self) -> MemberFault
         ensures { result ≡ method_fault self }
     {
@@ -64,7 +66,7 @@ impl Access {
     }
 }
 
-/// Returns whether a declaration of this kind has the form.
+/// Returns whether a declaration of this kind has the form `kind`.
 pub(crate) fn lets(declared: DeclarationKind, kind: Kind) -> bool
     ensures { result ≡ lets kind declared }
 {
@@ -87,7 +89,8 @@ pub(crate) fn is_method(declared: DeclarationKind) -> bool
 /// Why a call finds no member.
 #[derive(Clone, Copy, Debug, PartialEq, Eq, Error)]
 pub enum MemberFault {
-    /// The interface has no member with that DISPID, or the member does not have the form that the call uses (DISP_E_MEMBERNOTFOUND).
+    /// The interface has no member with that DISPID, or the member does not have the form that the
+    /// call uses (DISP_E_MEMBERNOTFOUND).
     #[error("member not found")]
     MemberNotFound,
     /// The call is that of a method: a library contains no bodies of methods (E_NOTIMPL).

@@ -1,6 +1,7 @@
 //! The codes of replies for the errors of a library's look-ups.
 ghost use Rattle.std.specs.Prelude.{◌≡◌};
-ghost use Rattle.oa_typelib.specs.MemberCodes.{member_code, describe_code};
+ghost use Rattle.oa_typelib.specs.promise.MemberCodes.{member_code};
+ghost use Rattle.oa_typelib.specs.MemberCodes.{describe_code};
 
 use crate::{DescribeError, MemberFault};
 use oa_model::HResult;

@@ -2,18 +2,19 @@
 ghost use Rattle.std.specs.Prelude.{◌≡◌, IfOk, map, find, option_copied};
 ghost use Rattle.oa_typelib.specs.Indexes.{default_among, default_in};
 
-use oa_checks::{FoldedNames, folded};
 use oa_idl::{Entry, Item};
+use oa_sema::{FoldedNames, folded};
 use std::alloc::{AllocError, Global};
 
-/// Returns the entry that is marked as the default.
+/// Returns the entry that is marked as the default; None if there is none.
 fn default_entry(entries: &[Entry]) -> Option<&Entry>
     ensures { option_copied result ≡ find (λ e. e.is_default) entries.now }
 {
     entries.iter().find(|e| e.is_default)
 }
 
-/// Returns the place of the interface that the default entry names.
+/// Returns the place of the interface that the default entry names; None if there is none. Err: an
+/// allocation fails.
 fn entry_place(
     alloc: Global,
     names: &FoldedNames,
@@ -28,7 +29,8 @@ fn entry_place(
     Ok(names.place(key.as_slice()))
 }
 
-/// Returns the place of an item's default interface; None for an interface.
+/// Returns the place of an item's default interface; None for an interface. Err: an allocation
+/// fails.
 fn item_default(
     alloc: Global,
     names: &FoldedNames,
@@ -42,7 +44,8 @@ fn item_default(
     }
 }
 
-/// Returns for each item the place of its default interface; None for an interface. Err: an allocation fails.
+/// Returns for each item the place of its default interface; None for an interface. Err: an
+/// allocation fails.
 pub(crate) fn find_defaults(
     alloc: Global,
     names: &FoldedNames,

@@ -2,19 +2,20 @@
 ghost use Rattle.std.specs.Prelude.{◌≡◌, ◌++◌, if◌then◌else◌, Some, None, IfOk, OnOk, map, length, option_copied, slice_get};
 ghost use Rattle.std.specs.List.{filter, filter_map};
 ghost use Rattle.std.specs.Option.{option_and_then};
-ghost use Rattle.oa_checks.specs.Declarations.{declarations};
-ghost use Rattle.oa_checks.specs.Defaults.{default_value};
+ghost use Rattle.oa_sema.specs.promise.Declarations.{declarations};
+ghost use Rattle.oa_sema.specs.promise.Defaults.{default_value};
 ghost use Rattle.oa_typelib.specs.Indexes.{described_class, entry_in, is_put_or_not};
-ghost use Rattle.oa_typelib.specs.Descriptions.{classes_of, described_entry, interface_description, interfaces_of};
-ghost use Rattle.oa_typelib.specs.Descriptions.{member_description, members_described, parameter_description, put_last};
-ghost use Rattle.oa_checks.specs.Libraries.{as_interface};
+ghost use Rattle.oa_typelib.specs.promise.Descriptions.{classes_of, described_entry, interface_description};
+ghost use Rattle.oa_typelib.specs.promise.Descriptions.{interfaces_of, member_description, members_described};
+ghost use Rattle.oa_typelib.specs.promise.Descriptions.{parameter_description, put_last};
+ghost use Rattle.oa_sema.specs.promise.Libraries.{as_interface};
 
 use crate::described::{Content, DescribedEntry, DescribedMember, DescribedParameter};
 use crate::dispinterface::Dispinterface;
 use crate::forms::Form;
 use crate::index::Index;
-use oa_checks::{DeclarationKind, folded, is_optional};
 use oa_idl::{Coclass, Entry, Interface, Item, Name, Parameter};
+use oa_sema::{DeclarationKind, folded, is_optional};
 use oa_variant::Scalar;
 use std::alloc::{AllocError, Global};
 use std::marker::Model;
@@ -32,7 +33,7 @@ pub struct Description<'a> {
 }
 
 impl<'a> Model for Description<'a> {
-    ghost use Rattle.oa_typelib.specs.DescriptionValues.{DescriptionValue};
+    ghost use Rattle.oa_typelib.specs.promise.DescriptionValues.{DescriptionValue};
     ghost use Rattle.oa_typelib.specs.Contents.{content_of};
 
     ghost Value = { DescriptionValue };
@@ -54,7 +55,7 @@ fn parameter<'a>(parameter: &'a Parameter, default: &'a Option<Scalar>) -> Descr
     }
 }
 
-/// Describes parameters.
+/// Describes parameters with the values of their defaults. Err: an allocation fails.
 fn parameters<'a>(
     alloc: Global,
     parameters: &'a [Parameter],
@@ -70,7 +71,7 @@ fn parameters<'a>(
     Ok(all)
 }
 
-/// Describes a declaration.
+/// Describes a declaration. Err: an allocation fails.
 fn member<'a>(alloc: Global, form: &Form<'a>) -> Result<DescribedMember<'a>, AllocError>
     ensures { IfOk result (λ m. m ≡ member_description form.now) }
 {
@@ -91,7 +92,8 @@ fn is_put_or_not(kind: DeclarationKind, puts: bool) -> bool
     if puts { kind.is_put() } else { !kind.is_put() }
 }
 
-/// Returns the declaration at `place` if it is a put and `puts` is true, or if it is no put and `puts` is false; otherwise None.
+/// Returns the declaration at `place`, counted from 0, if it has the form: a put if `puts` is true,
+/// no put otherwise. None if it does not, or there is none.
 pub fn form_at<'a>(interface: &Dispinterface<'a>, place: usize, puts: bool) -> Option<Form<'a>>
     ensures { result ≡ option_and_then (λ d. if is_put_or_not puts d.kind then Some d else None)
         (slice_get (declarations interface.now) place) }
@@ -105,6 +107,7 @@ pub fn form_at<'a>(interface: &Dispinterface<'a>, place: usize, puts: bool) -> O
 }
 
 /// Appends the declarations at some places that are puts, if `puts` is true, or that are no puts.
+/// Err: an allocation fails.
 fn add_forms<'a>(
     alloc: Global,
     members: &mut Vec<DescribedMember<'a>>,
@@ -123,7 +126,7 @@ fn add_forms<'a>(
     Ok(())
 }
 
-/// Appends the declarations of a member, a get before its put.
+/// Appends the declarations of a member, a get before its put. Err: an allocation fails.
 fn add_member<'a>(
     alloc: Global,
     members: &mut Vec<DescribedMember<'a>>,
@@ -137,7 +140,8 @@ fn add_member<'a>(
     add_forms(alloc, members, interface, places, true)
 }
 
-/// Describes the members of an interface, in the order in which their names first appear.
+/// Describes the members of an interface, in the order in which their names first appear. Err: an
+/// allocation fails.
 fn members<'a>(
     alloc: Global,
     interface: &Dispinterface<'a>,
@@ -152,7 +156,7 @@ fn members<'a>(
     Ok(members)
 }
 
-/// Describes an interface. Err: an allocation fails.
+/// Returns the description of an interface. Err: an allocation fails.
 pub(crate) fn interface_description<'a>(
     alloc: Global,
     interface: &Dispinterface<'a>,
@@ -178,7 +182,7 @@ fn entry_at(is_default: bool, interface: usize) -> Option<DescribedEntry>
     })
 }
 
-/// Describes an entry; None if it names no interface of the library.
+/// Describes an entry; None if it names no interface of the library. Err: an allocation fails.
 fn entry(alloc: Global, index: &Index, entry: &Entry) -> Result<Option<DescribedEntry>, AllocError>
     ensures { IfOk result (λ e. e ≡ entry_in index.now.interfaces entry.now) }
 {
@@ -189,7 +193,8 @@ fn entry(alloc: Global, index: &Index, entry: &Entry) -> Result<Option<Described
     Ok(entry_at(entry.is_default, interface))
 }
 
-/// Describes the entries of a coclass, without those that name no interface.
+/// Describes the entries of a coclass, without those that name no interface. Err: an allocation
+/// fails.
 fn entries(
     alloc: Global,
     index: &Index,
@@ -206,7 +211,7 @@ fn entries(
     Ok(all)
 }
 
-/// Describes a coclass. Err: an allocation fails.
+/// Returns the description of a coclass. Err: an allocation fails.
 pub(crate) fn class_description<'a>(
     alloc: Global,
     index: &Index,
@@ -221,7 +226,8 @@ pub(crate) fn class_description<'a>(
     })
 }
 
-/// Returns the place among the items of the interface with this index among the interfaces.
+/// Returns the place among the items of interface number `index`, counted from 0; None if there are
+/// fewer.
 pub(crate) fn nth_interface(items: &[Item], index: usize) -> Option<usize>
     ensures { option_and_then (λ place. option_and_then as_interface (slice_get items.now place)) result
         ≡ slice_get (interfaces_of items.now) index }
@@ -252,7 +258,7 @@ pub(crate) fn count_interfaces(items: &[Item]) -> usize
     count
 }
 
-/// Returns the coclass with this index among the coclasses.
+/// Returns coclass number `index`, counted from 0; None if there are fewer.
 pub(crate) fn nth_class(items: &[Item], index: usize) -> Option<&Coclass>
     ensures { option_copied result ≡ slice_get (classes_of items.now) index }
 {

@@ -2,9 +2,9 @@
 ghost use Rattle.std.specs.Prelude.{◌≡◌};
 ghost use Rattle.oa_typelib.specs.declared.described.DescribeError.TheVariants.{Memory};
 
-use oa_checks::DeclarationKind;
 use oa_idl::Name;
 use oa_model::ValueType;
+use oa_sema::DeclarationKind;
 use oa_variant::Scalar;
 use std::alloc::AllocError;
 use std::marker::Model;
@@ -21,13 +21,14 @@ pub struct DescribedParameter<'a> {
     pub is_optional: bool,
     /// The name, spelled as in the text.
     pub name: &'a Name,
-    /// The value of the default (PARAMFLAG_FHASDEFAULT), converted to the declared type; for VARIANT an I4, a BSTR or a BOOL.
+    /// The value of the default (PARAMFLAG_FHASDEFAULT), converted to the declared type; for
+    /// VARIANT an I4, a BSTR or a BOOL.
     pub default: Option<&'a Scalar>,
 }
 
 impl<'a> Model for DescribedParameter<'a> {
     ghost use Rattle.std.specs.Prelude.{option_copied};
-    ghost use Rattle.oa_typelib.specs.DescriptionValues.{ParameterDescription};
+    ghost use Rattle.oa_typelib.specs.promise.DescriptionValues.{ParameterDescription};
 
     ghost Value = { ParameterDescription };
 
@@ -40,7 +41,8 @@ impl<'a> Model for DescribedParameter<'a> {
     } };
 }
 
-/// The description of a declaration: a property of `properties:`, or a method, a get or a put of `methods:`.
+/// The description of a declaration: a property of `properties:`, or a method, a get or a put of
+/// `methods:`.
 #[derive(Drop)]
 pub struct DescribedMember<'a> {
     /// The DISPID.
@@ -56,7 +58,7 @@ pub struct DescribedMember<'a> {
 }
 
 impl<'a> Model for DescribedMember<'a> {
-    ghost use Rattle.oa_typelib.specs.DescriptionValues.{MemberDescription};
+    ghost use Rattle.oa_typelib.specs.promise.DescriptionValues.{MemberDescription};
 
     ghost Value = { MemberDescription };
 
@@ -79,7 +81,7 @@ pub struct DescribedEntry {
 }
 
 impl Model for DescribedEntry {
-    ghost use Rattle.oa_typelib.specs.DescriptionValues.{EntryDescription};
+    ghost use Rattle.oa_typelib.specs.promise.DescriptionValues.{EntryDescription};
 
     ghost Value = { EntryDescription };
 
@@ -89,7 +91,8 @@ impl Model for DescribedEntry {
 /// The content of a description.
 #[derive(Drop)]
 pub enum Content<'a> {
-    /// The members of an interface, in the order in which their names first appear, a get before its put.
+    /// The members of an interface, in the order in which their names first appear, a get before
+    /// its put.
     Interface(Vec<DescribedMember<'a>>),
     /// The entries of a coclass in the text's order.
     Coclass(Vec<DescribedEntry>),

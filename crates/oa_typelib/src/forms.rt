@@ -1,19 +1,20 @@
 //! The declarations of a member.
 ghost use Rattle.std.specs.Prelude.{◌≡◌, is_some, map, slice_get};
 ghost use Rattle.std.specs.List.{filter_map};
-ghost use Rattle.oa_checks.specs.Declarations.{declarations, own_parameters};
-ghost use Rattle.oa_checks.specs.Defaults.{default_value};
-ghost use Rattle.oa_checks.specs.Defaults.{defaults_of};
-ghost use Rattle.oa_typelib.specs.Members.{form_for, main_form};
+ghost use Rattle.oa_sema.specs.promise.Declarations.{declarations, own_parameters};
+ghost use Rattle.oa_sema.specs.promise.Defaults.{default_value};
+ghost use Rattle.oa_sema.specs.Defaults.{defaults_of};
+ghost use Rattle.oa_typelib.specs.promise.Members.{form_for, main_form};
 
 use crate::access::{Kind, lets};
 use crate::dispinterface::Dispinterface;
-use oa_checks::Declaration;
 use oa_idl::Interface;
+use oa_sema::Declaration;
 use oa_variant::Scalar;
 use std::marker::Model;
 
-/// Returns the declaration of an interface at a place: first the properties in the text's order, then the methods.
+/// Returns the declaration of an interface at a place, counted from 0: first the properties in the
+/// text's order, then the methods. None if there are fewer.
 pub(crate) fn declaration_at(interface: &Interface, place: usize) -> Option<Declaration<'_>>
     ensures { result ≡ slice_get (declarations interface.now) place }
 {
@@ -36,8 +37,8 @@ pub struct Form<'a> {
 
 impl<'a> Model for Form<'a> {
     ghost use Rattle.std.specs.Prelude.{◌≡◌};
-    ghost use Rattle.oa_checks.specs.DeclarationValues.{DeclarationValue};
-    ghost use Rattle.oa_checks.specs.Defaults.{defaults_of};
+    ghost use Rattle.oa_sema.specs.promise.DeclarationValues.{DeclarationValue};
+    ghost use Rattle.oa_sema.specs.Defaults.{defaults_of};
 
     ghost Value = { DeclarationValue };
 
@@ -58,14 +59,15 @@ impl<'a> Form<'a> {
         }
     }
 
-    /// Returns the values of the parameters' defaults.
+    /// Returns the values of the parameters' defaults; None for a parameter without one.
     pub(crate) fn defaults(&self) -> &'a [Option<Scalar>]
         ensures { result.now ≡ defaults_of self.now }
     {
         self.defaults
     }
 
-    /// Returns the values of the parameters' defaults, without the new value of a put.
+    /// Returns the values of the parameters' defaults, without the new value of a put; None for a
+    /// parameter without one.
     pub(crate) fn own_defaults(&self) -> &'a [Option<Scalar>]
         ensures { result.now ≡ map default_value (own_parameters self.now) }
     {
@@ -73,7 +75,7 @@ impl<'a> Form<'a> {
     }
 }
 
-/// Returns the first declaration at these places.
+/// Returns the first declaration at these places; None if there is none.
 fn first_at<'a>(interface: &Dispinterface<'a>, places: &[usize]) -> Option<Form<'a>>
     ensures { result ≡ slice_get (filter_map (slice_get (declarations interface.now)) places.now) 0 }
 {
@@ -84,7 +86,7 @@ fn first_at<'a>(interface: &Dispinterface<'a>, places: &[usize]) -> Option<Form<
     }
 }
 
-/// Returns the first declaration at these places that has the form `kind`.
+/// Returns the first declaration at these places that has the form `kind`; None if there is none.
 fn form_at<'a>(interface: &Dispinterface<'a>, places: &[usize], kind: Kind) -> Option<Form<'a>>
     ensures { result ≡ form_for kind (filter_map (slice_get (declarations interface.now)) places.now) }
 {
@@ -99,7 +101,8 @@ fn form_at<'a>(interface: &Dispinterface<'a>, places: &[usize], kind: Kind) -> O
     }
 }
 
-/// Returns whether some declaration at these places has the form `kind`. Reads only the kinds of the declarations.
+/// Returns whether some declaration at these places has the form `kind`. Reads only the kinds of
+/// the declarations.
 fn any_lets(interface: &Dispinterface<'_>, places: &[usize], kind: Kind) -> bool
     ensures { result ≡ is_some (form_for kind (filter_map (slice_get (declarations interface.now)) places.now)) }
 {
@@ -122,8 +125,8 @@ pub(crate) struct Forms<'a> {
 impl<'a> Model for Forms<'a> {
     ghost use Rattle.std.specs.Prelude.{List, slice_get};
     ghost use Rattle.std.specs.List.{filter_map};
-    ghost use Rattle.oa_checks.specs.DeclarationValues.{DeclarationValue};
-    ghost use Rattle.oa_checks.specs.Declarations.{declarations};
+    ghost use Rattle.oa_sema.specs.promise.DeclarationValues.{DeclarationValue};
+    ghost use Rattle.oa_sema.specs.promise.Declarations.{declarations};
 
     ghost Value = { List DeclarationValue };
 
@@ -138,7 +141,7 @@ impl<'a> Forms<'a> {
         Forms { interface, places }
     }
 
-    /// Returns the first declaration that has the form `kind`.
+    /// Returns the first declaration that has the form `kind`; None if there is none.
     pub(crate) fn form_for(&self, kind: Kind) -> Option<Form<'a>>
         ensures { result ≡ form_for kind self.now }
     {
@@ -152,7 +155,8 @@ impl<'a> Forms<'a> {
         any_lets(&self.interface, self.places, kind)
     }
 
-    /// Returns the declaration whose name and parameters are those of the member: the first that can be read, otherwise the first.
+    /// Returns the declaration whose name and parameters are those of the member: the first that
+    /// can be read, otherwise the first. None if there is none.
     pub(crate) fn main(&self) -> Option<Form<'a>>
         ensures { result ≡ main_form self.now }
     {

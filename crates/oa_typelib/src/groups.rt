@@ -8,13 +8,13 @@ ghost use Rattle.std.specs.List.{position_or_len};
 ghost use Rattle.std.specs.Ordering.{int_eq};
 ghost use Rattle.std.proofs.Common.{rules};
 ghost use Rattle.indexmap.specs.IndexSet.{insert_key};
-ghost use Rattle.oa_model.specs.Folding.{folded_name};
-ghost use Rattle.oa_checks.specs.Libraries.{same};
+ghost use Rattle.oa_model.specs.promise.Folding.{folded_name};
+ghost use Rattle.oa_sema.specs.promise.Libraries.{same};
 ghost use Rattle.oa_typelib.specs.Groups.{keys_with_places, places_in, with_place};
 
 use indexmap::{Equivalent, IndexMap};
-use oa_checks::{Declaration, folded};
 use oa_idl::Name;
+use oa_sema::{Declaration, folded};
 use std::alloc::{AllocError, Global};
 use std::hash::{Hash, Hasher};
 use std::marker::Model;
@@ -69,7 +69,8 @@ impl Equivalent<FoldedName> for &[u16] {
     }
 }
 
-/// The keys of a list in the order in which they first appear, each with the places at which it appears.
+/// The keys of a list in the order in which they first appear, each with the places at which it
+/// appears.
 pub(crate) struct Groups<K: Eq + Hash> {
     groups: IndexMap<K, Vec<usize>>,
 }
@@ -101,7 +102,8 @@ impl<K: Eq + Hash> Groups<K> {
         }
     }
 
-    /// Appends a place to the group of a key, or makes a new last group for it.
+    /// Appends a place to the group of a key, or makes a new last group for it. Err: an allocation
+    /// fails.
     fn add(&mut self, alloc: Global, key: K, place: usize) -> Result<(), AllocError>
     where
         K: Drop,
@@ -119,7 +121,7 @@ impl<K: Eq + Hash> Groups<K> {
         Ok(())
     }
 
-    /// Returns the places of a key, or none.
+    /// Returns the places of a key; none if it does not appear.
     pub(crate) fn places<Q: Equivalent<K>>(&self, key: Q) -> &[usize]
         ensures { result.now ≡ places_in (position (Q.equivalent key) self.now.keys) self.now.places }
     {
@@ -129,7 +131,7 @@ impl<K: Eq + Hash> Groups<K> {
         }
     }
 
-    /// Returns the first place of a key.
+    /// Returns the first place of a key; None if it does not appear.
     pub(crate) fn first<Q: Equivalent<K>>(&self, key: Q) -> Option<usize>
         ensures { result ≡ slice_get (places_in (position (Q.equivalent key) self.now.keys) self.now.places) 0 }
     {
@@ -145,8 +147,8 @@ impl<K: Eq + Hash> Groups<K> {
 }
 
 impl Groups<i32> {
-    /// Returns the places of a DISPID. If the DISPIDs of an interface are 1, 2, 3 and so on, the group of `id` has the index `id - 1` and
-    /// no hash is computed.
+    /// Returns the places of a DISPID; none if it does not appear. If the DISPIDs of an interface
+    /// are 1, 2, 3 and so on, the group of `id` has the index `id - 1`. No hash is computed then.
     pub(crate) fn places_of(&self, id: i32) -> &[usize]
         ensures { result.now ≡ places_in (position (int_eq id) self.now.keys) self.now.places }
     {
@@ -160,7 +162,7 @@ impl Groups<i32> {
     }
 }
 
-/// Groups the places of names by the folded name. Err: an allocation fails.
+/// Returns the places of names, grouped by the folded name. Err: an allocation fails.
 pub(crate) fn places_by_name(
     alloc: Global,
     names: &[&Name],
@@ -175,7 +177,7 @@ pub(crate) fn places_by_name(
     Ok(groups)
 }
 
-/// Groups the places of declarations by their DISPID. Err: an allocation fails.
+/// Returns the places of declarations, grouped by their DISPID. Err: an allocation fails.
 pub(crate) fn places_by_id(
     alloc: Global,
     declarations: &[Declaration],

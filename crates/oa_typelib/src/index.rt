@@ -1,19 +1,20 @@
 //! The index of a library's members and interfaces.
 ghost use Rattle.std.specs.Prelude.{◌≡◌, IfOk, map, slice_get, is_some, option_copied};
-ghost use Rattle.oa_model.specs.Folding.{folded_name};
-ghost use Rattle.oa_checks.specs.Libraries.{folded_names, same};
-ghost use Rattle.oa_typelib.specs.Descriptions.{interfaces_of};
+ghost use Rattle.oa_model.specs.promise.Folding.{folded_name};
+ghost use Rattle.oa_sema.specs.Libraries.{folded_names};
+ghost use Rattle.oa_sema.specs.promise.Libraries.{same};
+ghost use Rattle.oa_typelib.specs.promise.Descriptions.{interfaces_of};
 ghost use Rattle.oa_typelib.specs.Groups.{keys_with_places};
 ghost use Rattle.oa_typelib.specs.Indexes.{entered_in, enters, first_in, flag_at, index_of, members_in};
 
 use crate::groups::{FoldedName, Groups, places_by_name};
 use crate::members::Members;
-use oa_checks::{at, entry_names, folded, item_name, items_of};
 use oa_idl::{Coclass, Item, Name, Tree};
+use oa_sema::{at, entry_names, folded, item_name, items_of};
 use std::alloc::{AllocError, Global};
 use std::marker::Model;
 
-/// Makes the members of each item.
+/// Returns the members of each item. Err: an allocation fails.
 fn all_members(alloc: Global, items: &[Item]) -> Result<Vec<Members>, AllocError>
     ensures { IfOk result (λ v. v.items ≡ map members_in items.now) }
 {
@@ -24,7 +25,7 @@ fn all_members(alloc: Global, items: &[Item]) -> Result<Vec<Members>, AllocError
     Ok(members)
 }
 
-/// Returns the names of the interfaces.
+/// Returns the names of the interfaces. Err: an allocation fails.
 fn interface_names(alloc: Global, items: &[Item]) -> Result<Vec<&Name>, AllocError>
     ensures { IfOk result (λ v. map (λ n. n.now) v.items ≡ map (λ i. i.name) (interfaces_of items.now)) }
 {
@@ -38,7 +39,7 @@ fn interface_names(alloc: Global, items: &[Item]) -> Result<Vec<&Name>, AllocErr
     Ok(names)
 }
 
-/// Returns the folded name of each item.
+/// Returns the folded name of each item. Err: an allocation fails.
 fn item_keys(alloc: Global, items: &[Item]) -> Result<Vec<Vec<u16>>, AllocError>
     ensures { IfOk result (λ v. map (λ k. k.items) v.items ≡ folded_names items.now) }
 {
@@ -49,7 +50,7 @@ fn item_keys(alloc: Global, items: &[Item]) -> Result<Vec<Vec<u16>>, AllocError>
     Ok(keys)
 }
 
-/// Groups the places among the interfaces by the folded name.
+/// Groups the places among the interfaces by the folded name. Err: an allocation fails.
 fn by_interface(alloc: Global, items: &[Item]) -> Result<Groups<FoldedName>, AllocError>
     ensures { IfOk result (λ g. g ≡ keys_with_places same (map (λ i. folded_name i.name) (interfaces_of items.now))) }
 {
@@ -57,7 +58,7 @@ fn by_interface(alloc: Global, items: &[Item]) -> Result<Groups<FoldedName>, All
     places_by_name(alloc, names.as_slice())
 }
 
-/// Returns for each folded name whether it has a group.
+/// Returns for each folded name whether it has a group. Err: an allocation fails.
 fn flags_of(
     alloc: Global,
     groups: &Groups<FoldedName>,
@@ -72,7 +73,7 @@ fn flags_of(
     Ok(flags)
 }
 
-/// Returns for each folded name whether an entry of the coclass has it.
+/// Returns for each folded name whether an entry of the coclass has it. Err: an allocation fails.
 fn entered_by(alloc: Global, class: &Coclass, keys: &[Vec<u16>]) -> Result<Vec<bool>, AllocError>
     ensures { IfOk result (λ v. v.items ≡ map (enters class.now) (map (λ k. k.items) keys.now)) }
 {
@@ -81,7 +82,8 @@ fn entered_by(alloc: Global, class: &Coclass, keys: &[Vec<u16>]) -> Result<Vec<b
     flags_of(alloc, &entries, keys)
 }
 
-/// As `entered_by` for a coclass; nothing for an interface.
+/// Returns for each folded name whether an entry of a coclass has it; nothing for an interface.
+/// Err: an allocation fails.
 fn entered_in(alloc: Global, item: &Item, keys: &[Vec<u16>]) -> Result<Vec<bool>, AllocError>
     ensures { IfOk result (λ v. v.items ≡ entered_in (map (λ k. k.items) keys.now) item.now) }
 {
@@ -91,7 +93,8 @@ fn entered_in(alloc: Global, item: &Item, keys: &[Vec<u16>]) -> Result<Vec<bool>
     }
 }
 
-/// Returns for each coclass and each item whether an entry of the coclass names the item. The row of an interface is empty.
+/// Returns for each coclass and each item whether an entry of the coclass names the item. The row
+/// of an interface is empty. Err: an allocation fails.
 fn entered_rows(alloc: Global, items: &[Item]) -> Result<Vec<Vec<bool>>, AllocError>
     ensures { IfOk result (λ v. map (λ row. row.items) v.items ≡ map (entered_in (folded_names items.now)) items.now) }
 {
@@ -110,7 +113,8 @@ pub(crate) struct Index {
     members: Vec<Members>,
     /// The places of the interfaces among the interfaces, by their folded names.
     interfaces: Groups<FoldedName>,
-    /// For each coclass and each item whether an entry of the coclass names the item, by their places.
+    /// For each coclass and each item whether an entry of the coclass names the item, by their
+    /// places.
     entered: Vec<Vec<bool>>,
 }
 
@@ -136,14 +140,15 @@ impl Index {
         })
     }
 
-    /// Returns the members of the item at a place.
+    /// Returns the members of the item at a place, counted from 0; None if there is none.
     pub(crate) fn members(&self, place: usize) -> Option<&Members>
         ensures { option_copied result ≡ slice_get self.now.members place }
     {
         at(self.members.as_slice(), place)
     }
 
-    /// Returns the place among the interfaces of the interface with a folded name.
+    /// Returns the place among the interfaces of the interface with a folded name; None if there is
+    /// none.
     pub(crate) fn interface(&self, name: &[u16]) -> Option<usize>
         ensures { result ≡ first_in self.now.interfaces name.now }
     {

@@ -1,9 +1,10 @@
 //! Type libraries: a checked tree with indexes, and the look-ups of a server in it.
 //!
-//! Contract: `check` returns a library if and only if the tree has no error (`IsLibrary`), and otherwise the first error. Each look-up
-//! returns what the definitions over the tree say (`Members`, `Names`, `Descriptions`).
+//! Contract: `check` returns a library if and only if the tree has no error (`IsLibrary`), and
+//! otherwise the first error. Each look-up returns what the definitions over the tree say
+//! (`Members`, `Names`, `Descriptions`).
 //!
-//! Used by oa_keeps, oa_bind, oa_fits, oa_description, oa_decision, oa_turn, oa_server and the program.
+//! Used by oa_compat, oa_bind, oa_decision, oa_turn, oa_server and the program.
 #![tactic(auto)]
 
 mod access;

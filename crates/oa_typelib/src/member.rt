@@ -1,9 +1,9 @@
 //! Properties of interfaces, as a call uses them.
 ghost use Rattle.std.specs.Prelude.{◌≡◌, map, option_copied, slice_get};
 ghost use Rattle.std.specs.Option.{option_and_then, option_map};
-ghost use Rattle.oa_checks.specs.Declarations.{type_of_value};
-ghost use Rattle.oa_checks.specs.Defaults.{default_value};
-ghost use Rattle.oa_typelib.specs.Members.{answer, has_form, main_form, property_of, property_with};
+ghost use Rattle.oa_sema.specs.promise.Declarations.{type_of_value};
+ghost use Rattle.oa_sema.specs.promise.Defaults.{default_value};
+ghost use Rattle.oa_typelib.specs.promise.Members.{answer, has_form, main_form, property_of, property_with};
 
 use crate::access::{Access, Kind, MemberFault, is_method};
 use crate::forms::{Form, Forms};
@@ -12,7 +12,8 @@ use oa_model::ValueType;
 use oa_variant::Scalar;
 use std::marker::Model;
 
-/// A property of an interface. If it is declared by a get and a put, its name and parameters are those of the get.
+/// A property of an interface. If it is declared by a get and a put, its name and parameters are
+/// those of the get.
 #[derive(Drop)]
 pub struct Member<'a> {
     /// The DISPID.
@@ -33,8 +34,8 @@ pub struct Member<'a> {
 
 impl<'a> Model for Member<'a> {
     ghost use Rattle.std.specs.Prelude.{◌≡◌, map};
-    ghost use Rattle.oa_checks.specs.Defaults.{default_value};
-    ghost use Rattle.oa_typelib.specs.MemberValues.{MemberValue};
+    ghost use Rattle.oa_sema.specs.promise.Defaults.{default_value};
+    ghost use Rattle.oa_typelib.specs.promise.MemberValues.{MemberValue};
 
     ghost Value = { MemberValue };
 
@@ -51,7 +52,8 @@ impl<'a> Model for Member<'a> {
 }
 
 impl<'a> Member<'a> {
-    /// Makes the property of these declarations; `main` has its name and parameters. None if `main` has no type.
+    /// Makes the property of these declarations; `main` has its name and parameters. None if `main`
+    /// has no type.
     pub(crate) fn of(forms: &Forms<'a>, main: &Form<'a>) -> Option<Member<'a>>
         ensures { result ≡ option_map (property_of forms.now main.now) (type_of_value main.now) }
     {
@@ -77,15 +79,16 @@ impl<'a> Member<'a> {
         }
     }
 
-    /// Returns for each parameter the value of its default, converted to the declared type; for VARIANT an I4, a BSTR or a BOOL. None if it
-    /// has no default.
+    /// Returns for each parameter the value of its default, converted to the declared type; for
+    /// VARIANT an I4, a BSTR or a BOOL. None if it has no default.
     pub fn defaults(&self) -> &'a [Option<Scalar>]
         ensures { result.now ≡ map default_value self.now.parameters }
     {
         self.defaults
     }
 
-    /// Returns the value of the default of the parameter at a place. None if it has no default, or if there is no such parameter.
+    /// Returns the value of the default of the parameter at a place, counted from 0. None if it has
+    /// no default, or if there is no such parameter.
     pub fn default(&self, place: usize) -> Option<&'a Scalar>
         ensures { option_copied result ≡ option_and_then default_value (slice_get self.now.parameters place) }
     {
@@ -107,7 +110,8 @@ pub(crate) fn property<'a>(forms: &Forms<'a>) -> Option<Member<'a>>
     Member::of(forms, &main)
 }
 
-/// Returns the property of these declarations and the form of it that a call uses, or the error of `Dispinterface::member`.
+/// Returns the property of these declarations and the form of it that a call uses. Errors are those
+/// of `Dispinterface::member`.
 pub(crate) fn find<'a>(forms: &Forms<'a>, access: Access) -> Result<(Member<'a>, Kind), MemberFault>
     ensures { result ≡ answer (main_form forms.now) forms.now access }
 {

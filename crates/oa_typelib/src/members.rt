@@ -1,19 +1,21 @@
 //! The members of an interface: its declarations by their names and by their DISPIDs.
 ghost use Rattle.std.specs.Prelude.{◌≡◌, IfOk, map};
-ghost use Rattle.oa_model.specs.Folding.{folded_name};
-ghost use Rattle.oa_checks.specs.Defaults.{default_value, defaults_of};
-ghost use Rattle.oa_checks.specs.Libraries.{same};
+ghost use Rattle.oa_model.specs.promise.Folding.{folded_name};
+ghost use Rattle.oa_sema.specs.promise.Defaults.{default_value};
+ghost use Rattle.oa_sema.specs.Defaults.{defaults_of};
+ghost use Rattle.oa_sema.specs.promise.Libraries.{same};
 ghost use Rattle.oa_typelib.specs.Groups.{keys_with_places};
 ghost use Rattle.oa_typelib.specs.Indexes.{grouped, members_in};
 
 use crate::groups::{FoldedName, Groups, places_by_id, places_by_name};
-use oa_checks::{Declaration, declarations, value_of_default};
 use oa_idl::{Item, Name, Parameter};
+use oa_sema::{Declaration, declarations, value_of_default};
 use oa_variant::Scalar;
 use std::alloc::{AllocError, Global};
 use std::marker::Model;
 
-/// Converts the defaults of parameters to values.
+/// Returns the values of the defaults of parameters; None for a parameter without one. Err: an
+/// allocation fails.
 fn values_of(alloc: Global, parameters: &[Parameter]) -> Result<Vec<Option<Scalar>>, AllocError>
     ensures { IfOk result (λ v. v.items ≡ map default_value parameters.now) }
 {
@@ -24,7 +26,8 @@ fn values_of(alloc: Global, parameters: &[Parameter]) -> Result<Vec<Option<Scala
     Ok(values)
 }
 
-/// Converts the defaults of the parameters of each declaration.
+/// Returns the values of the defaults of the parameters of each declaration. Err: an allocation
+/// fails.
 fn all_values(
     alloc: Global,
     declarations: &[Declaration],
@@ -41,7 +44,9 @@ fn all_values(
 /// The places of an interface's declarations by their folded names and by their DISPIDs.
 #[derive(Drop)]
 pub(crate) struct Members {
+    /// The places of the declarations by their folded names.
     pub(crate) by_name: Groups<FoldedName>,
+    /// The places of the declarations by their DISPIDs.
     pub(crate) by_id: Groups<i32>,
     /// For each declaration the values of its parameters' defaults.
     pub(crate) defaults: Vec<Vec<Option<Scalar>>>,
@@ -56,7 +61,7 @@ impl Model for Members {
     ghost view = { λ m. record { by_name = m.by_name; by_id = m.by_id; defaults = map (λ xs. xs.items) m.defaults.items } };
 }
 
-/// Returns the names of declarations.
+/// Returns the names of declarations. Err: an allocation fails.
 fn names_of<'a>(
     alloc: Global,
     declarations: &[Declaration<'a>],
@@ -70,7 +75,7 @@ fn names_of<'a>(
     Ok(names)
 }
 
-/// Groups the places of declarations by the folded name.
+/// Groups the places of declarations by the folded name. Err: an allocation fails.
 fn by_name(alloc: Global, declarations: &[Declaration]) -> Result<Groups<FoldedName>, AllocError>
     ensures { IfOk result (λ g. g ≡ keys_with_places same (map (λ d. folded_name d.name) declarations.now)) }
 {
@@ -79,7 +84,7 @@ fn by_name(alloc: Global, declarations: &[Declaration]) -> Result<Groups<FoldedN
 }
 
 impl Members {
-    /// Makes the members of these declarations.
+    /// Makes the members of these declarations. Err: an allocation fails.
     fn grouped(alloc: Global, declarations: &[Declaration]) -> Result<Members, AllocError>
         ensures { IfOk result (λ m. m ≡ grouped declarations.now) }
     {
@@ -90,7 +95,7 @@ impl Members {
         })
     }
 
-    /// Makes the members of an item; a coclass has none.
+    /// Makes the members of an item; a coclass has none. Err: an allocation fails.
     pub(crate) fn of(alloc: Global, item: &Item) -> Result<Members, AllocError>
         ensures { IfOk result (λ m. m ≡ members_in item.now) }
     {

@@ -1,13 +1,13 @@
 //! Looks up DISPIDs by names.
 ghost use Rattle.std.specs.Prelude.{◌≡◌, ◌++◌, IfOk, OnOk, map, position, None, Some};
-ghost use Rattle.oa_model.specs.Folding.{folded, folded_name};
-ghost use Rattle.oa_checks.specs.Libraries.{same_name};
-ghost use Rattle.oa_typelib.specs.Names.{ids_in, named_in, or_unknown, parameter_named, told};
+ghost use Rattle.oa_model.specs.promise.Folding.{folded, folded_name};
+ghost use Rattle.oa_sema.specs.promise.Libraries.{same_name};
+ghost use Rattle.oa_typelib.specs.promise.Names.{dispids_reply, ids_in, named_in, or_unknown, parameter_named};
 
 use crate::dispinterface::Dispinterface;
-use oa_checks::Declaration;
 use oa_idl::Parameter;
 use oa_model::{UNKNOWN_DISPID, fold};
+use oa_sema::Declaration;
 use std::alloc::{AllocError, Global};
 use std::marker::Model;
 
@@ -21,7 +21,7 @@ pub struct DispIds {
 }
 
 impl Model for DispIds {
-    ghost use Rattle.oa_typelib.specs.NamedValues.{DispIdsValue};
+    ghost use Rattle.oa_typelib.specs.promise.NamedValues.{DispIdsValue};
 
     ghost Value = { DispIdsValue };
 
@@ -39,7 +39,7 @@ fn fold_unit(unit: u16) -> u16
     }
 }
 
-/// Folds a name that a client has sent.
+/// Folds a name that a client has sent, in UTF-16 units. Err: an allocation fails.
 fn folded_name(alloc: Global, name: &[u16]) -> Result<Vec<u16>, AllocError>
     ensures { IfOk result (λ v. v.items ≡ folded_name name.now) }
 {
@@ -59,7 +59,7 @@ fn is_same_name(name: &[u16], declared: &[u8]) -> bool
     }
 }
 
-/// Returns the place of the parameter with a name.
+/// Returns the place of the parameter with a name, counted from 0; None if there is none.
 fn parameter_place(parameters: &[Parameter], name: &[u16]) -> Option<usize>
     ensures { result ≡ position (λ p. same_name name.now p.name) parameters.now }
 {
@@ -68,14 +68,14 @@ fn parameter_place(parameters: &[Parameter], name: &[u16]) -> Option<usize>
         .position(|p| is_same_name(name, p.name.as_bytes()))
 }
 
-/// Returns the DISPID of the parameter with a name, which is its place.
+/// Returns the DISPID of the parameter with a name, which is its place; None if there is none.
 fn parameter_named(parameters: &[Parameter], name: &[u16]) -> Option<i32>
     ensures { result ≡ parameter_named parameters.now name.now }
 {
     i32::try_from(parameter_place(parameters, name)?).ok()
 }
 
-/// Returns None for each name.
+/// Returns None for each name. Err: an allocation fails.
 fn unknown(alloc: Global, names: &[Vec<u16>]) -> Result<Vec<Option<i32>>, AllocError>
     ensures { IfOk result (λ v. v.items ≡ map (λ name. None) (map (λ n. n.items) names.now)) }
 {
@@ -86,7 +86,8 @@ fn unknown(alloc: Global, names: &[Vec<u16>]) -> Result<Vec<Option<i32>>, AllocE
     Ok(ids)
 }
 
-/// Appends the DISPID of the parameter with each name.
+/// Appends the DISPID of the parameter with each name; None for an unknown name. Err: an allocation
+/// fails.
 fn add_parameters(
     ids: &mut Vec<Option<i32>>,
     parameters: &[Parameter],
@@ -100,7 +101,8 @@ fn add_parameters(
     Ok(())
 }
 
-/// Returns the DISPIDs of the names of a member and its parameters. The first is that of `member`, whatever the first name is.
+/// Returns the DISPIDs of the names of a member and its parameters. The first is that of `member`,
+/// whatever the first name is. Err: an allocation fails.
 fn ids_in(
     alloc: Global,
     member: &Declaration<'_>,
@@ -117,7 +119,8 @@ fn ids_in(
     Ok(ids)
 }
 
-/// Returns the DISPIDs of the names of a member of the interface and of its parameters; None for an unknown name.
+/// Returns the DISPIDs of the names of a member of the interface and of its parameters; None for an
+/// unknown name. Err: an allocation fails.
 pub(crate) fn named_in(
     alloc: Global,
     interface: &Dispinterface<'_>,
@@ -142,9 +145,10 @@ fn or_unknown(id: Option<i32>) -> i32
     id.unwrap_or(UNKNOWN_DISPID)
 }
 
-/// Makes the reply to a look-up of names.
+/// Makes the reply to a look-up of names from the DISPID of each, None for an unknown one. Err: the
+/// allocation fails.
 pub(crate) fn told(alloc: Global, ids: &[Option<i32>]) -> Result<DispIds, AllocError>
-    ensures { IfOk result (λ d. d ≡ told ids.now) }
+    ensures { IfOk result (λ d. d ≡ dispids_reply ids.now) }
 {
     let mut answered = Vec::with_capacity(alloc, ids.len())?;
     let mut all_known = true;

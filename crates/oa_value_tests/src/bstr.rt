@@ -1,7 +1,7 @@
 //! Calls of each public function, and what the contracts do not promise: that allocations succeed.
 //!
-//! If an allocation fails, the call is repeated once. So the tests also pass if any one call of the allocator fails:
-//! `tests/program/test_raw_memory.py` fails each in turn.
+//! If an allocation fails, the call is repeated once. So the tests also pass if any one call of the
+//! allocator fails: `tests/program/test_raw_memory.py` fails each in turn.
 use crate::asserts::{assert_none, expect};
 use crate::shown::is_shown;
 use oa_bstr::{Bstr, BstrError};
@@ -9,6 +9,7 @@ use std::alloc::{AllocError, Global};
 use std::mem::size_of;
 use std::rt::HostRuntime;
 
+/// Makes a string of these bytes, and once more if the allocation fails.
 fn text(alloc: Global, bytes: &[u8]) -> Result<Bstr, BstrError> {
     match Bstr::from_bytes(alloc, bytes) {
         Err(BstrError::Memory) => Bstr::from_bytes(alloc, bytes),
@@ -16,6 +17,7 @@ fn text(alloc: Global, bytes: &[u8]) -> Result<Bstr, BstrError> {
     }
 }
 
+/// Copies a string, and once more if the allocation fails.
 fn copy_of(alloc: Global, text: &Bstr) -> Result<Bstr, AllocError> {
     match text.copy(alloc) {
         Err(_) => text.copy(alloc),
@@ -28,7 +30,8 @@ fn has(text: &Bstr, bytes: &[u8]) -> bool {
     !text.is_null() && text.as_bytes() == bytes && text.byte_len() as usize == bytes.len()
 }
 
-/// Returns whether a string has these bytes, and its copy still has them after the string is dropped.
+/// Returns whether a string has these bytes, and its copy still has them after the string is
+/// dropped.
 fn is_kept(alloc: Global, bytes: &[u8]) -> bool {
     let Ok(text) = text(alloc, bytes) else {
         return false;
@@ -42,8 +45,10 @@ fn is_kept(alloc: Global, bytes: &[u8]) -> bool {
     }
 }
 
+/// Bytes of strings.
 const TEXTS: [&[u8]; 5] = [&[], &[0], &[0, 0, 0], &[72, 0, 105, 0], &[1, 2, 3, 4, 5]];
 
+/// Returns the first bytes that a string or its copy does not have; None if there are none.
 fn first_lost(alloc: Global) -> Option<&'static [u8]> {
     for bytes in TEXTS {
         if !is_kept(alloc, bytes) {
@@ -72,7 +77,8 @@ fn is_behind_null(text: &Bstr) -> bool {
     null != *text && null < *text
 }
 
-/// Returns whether null sorts before the empty string. (The tests of the program check the order of strings.)
+/// Returns whether null sorts before the empty string. (The tests of the program check the order of
+/// strings.)
 fn is_before_empty(alloc: Global) -> bool {
     match text(alloc, &[]) {
         Ok(empty) => is_behind_null(&empty),
@@ -83,7 +89,8 @@ fn is_before_empty(alloc: Global) -> bool {
 /// Five bytes.
 pub const ODD: [u8; 5] = [0x34, 0x12, 0xff, 0xfe, 0x56];
 
-/// Returns whether a string has these bytes, and their little-endian units, the last of which ends with a zero byte.
+/// Returns whether a string has these bytes, and their little-endian units, the last of which ends
+/// with a zero byte.
 pub fn is_told(text: &Bstr) -> bool {
     text.byte_len() == 5
         && text.as_bytes() == ODD.as_slice()
@@ -104,7 +111,7 @@ fn are_told(alloc: Global) -> bool {
     }
 }
 
-/// Returns this many bytes with the value 7.
+/// Returns `count` bytes with the value 7.
 fn sevens(alloc: Global, count: usize) -> Result<Vec<u8>, AllocError> {
     match Vec::from_elem(alloc, 7, count) {
         Err(_) => Vec::from_elem(alloc, 7, count),

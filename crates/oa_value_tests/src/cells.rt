@@ -1,7 +1,9 @@
-//! What the contracts do not promise: that each value is dropped once, and that allocations succeed.
+//! What the contracts do not promise: that each value is dropped once, and that allocations
+//! succeed.
 //!
-//! If an allocation fails, the state after the failure is checked and the call is repeated once. So the tests also
-//! pass if any one call of the allocator fails: `tests/program/test_raw_memory.py` fails each in turn.
+//! If an allocation fails, the state after the failure is checked and the call is repeated once. So
+//! the tests also pass if any one call of the allocator fails: `tests/program/test_raw_memory.py`
+//! fails each in turn.
 use crate::asserts::{assert_none, expect};
 use oa_cells::{Cells, Row};
 use std::alloc::{AllocError, Global};
@@ -22,26 +24,27 @@ impl Drop for Counted<'_> {
     }
 }
 
-/// Why no cells were made.
+/// Why no cells were made: an allocation failed, or `fill` failed at this index.
 #[derive(Clone, Copy, PartialEq, Eq)]
-pub enum Refusal {
+pub enum CellsRefusal {
     Memory,
     At(usize),
 }
 
-impl From<AllocError> for Refusal {
-    fn from(_: AllocError) -> Refusal {
-        Refusal::Memory
+impl From<AllocError> for CellsRefusal {
+    fn from(_: AllocError) -> CellsRefusal {
+        CellsRefusal::Memory
     }
 }
 
+/// Makes the value of index `number`, and fails at the index `refuse`.
 fn make_counted<'a>(
     number: usize,
     refuse: usize,
     drops: &'a Cell<usize>,
-) -> Result<Counted<'a>, Refusal> {
+) -> Result<Counted<'a>, CellsRefusal> {
     if number == refuse {
-        return Err(Refusal::At(number));
+        return Err(CellsRefusal::At(number));
     }
     Ok(Counted {
         number: number as u128,
@@ -49,24 +52,26 @@ fn make_counted<'a>(
     })
 }
 
+/// Makes cells numbered by their indices, and fails at the index `refuse`.
 fn fill_once<'a>(
     alloc: Global,
     len: usize,
     refuse: usize,
     drops: &'a Cell<usize>,
-) -> Result<Cells<Counted<'a>>, Refusal> {
+) -> Result<Cells<Counted<'a>>, CellsRefusal> {
     Cells::filled_by(alloc, len, |i| make_counted(i, refuse, drops))
 }
 
-/// Makes cells numbered by their indices, and fails at the index `refuse`. If the allocation fails, no cell was made.
+/// Makes cells numbered by their indices, and fails at the index `refuse`. If the allocation fails,
+/// no cell was made.
 fn filled<'a>(
     alloc: Global,
     len: usize,
     refuse: usize,
     drops: &'a Cell<usize>,
-) -> Result<Cells<Counted<'a>>, Refusal> {
+) -> Result<Cells<Counted<'a>>, CellsRefusal> {
     match fill_once(alloc, len, refuse, drops) {
-        Err(Refusal::Memory) if drops.get() == 0 => fill_once(alloc, len, refuse, drops),
+        Err(CellsRefusal::Memory) if drops.get() == 0 => fill_once(alloc, len, refuse, drops),
         answer => answer,
     }
 }
@@ -85,10 +90,11 @@ fn are_numbered(cells: &Cells<Counted<'_>>, len: usize) -> bool {
 fn is_told(alloc: Global, refuse: usize, drops: &Cell<usize>) -> bool {
     match filled(alloc, 4, refuse, drops) {
         Ok(cells) => refuse == 4 && are_numbered(&cells, 4) && drops.get() == 0,
-        Err(error) => error == Refusal::At(refuse),
+        Err(error) => error == CellsRefusal::At(refuse),
     }
 }
 
+/// Returns the first index of failure for which a fill has another result; None if there is none.
 fn first_other_fill(alloc: Global) -> Option<usize> {
     for refuse in 0..5 {
         let drops = Cell::new(0);
@@ -99,18 +105,19 @@ fn first_other_fill(alloc: Global) -> Option<usize> {
     None
 }
 
-/// A resize of `from` cells to `len` that fails at the index `refuse`: the length after it, the drops by then, and
-/// all drops at the end.
+/// A resize of `from` cells to `len` that fails at the index `refuse`: the length after it, the
+/// drops by then, and all drops at the end.
 struct Resize {
     from: usize,
     len: usize,
     refuse: usize,
-    answer: Result<(), Refusal>,
+    answer: Result<(), CellsRefusal>,
     left: usize,
     dropped: usize,
     all: usize,
 }
 
+/// Resizes, and their results.
 const RESIZES: [Resize; 7] = [
     Resize {
         from: 3,
@@ -125,7 +132,7 @@ const RESIZES: [Resize; 7] = [
         from: 3,
         len: 5,
         refuse: 3,
-        answer: Err(Refusal::At(3)),
+        answer: Err(CellsRefusal::At(3)),
         left: 3,
         dropped: 0,
         all: 3,
@@ -134,7 +141,7 @@ const RESIZES: [Resize; 7] = [
         from: 3,
         len: 5,
         refuse: 4,
-        answer: Err(Refusal::At(4)),
+        answer: Err(CellsRefusal::At(4)),
         left: 3,
         dropped: 1,
         all: 4,
@@ -177,11 +184,12 @@ const RESIZES: [Resize; 7] = [
     },
 ];
 
+/// Resizes the cells as the row says.
 fn resize_once<'a>(
     cells: &mut Cells<Counted<'a>>,
     row: &Resize,
     drops: &'a Cell<usize>,
-) -> Result<(), Refusal> {
+) -> Result<(), CellsRefusal> {
     cells.resized(row.len, |i| make_counted(i, row.refuse, drops))
 }
 
@@ -190,9 +198,9 @@ fn resized<'a>(
     cells: &mut Cells<Counted<'a>>,
     row: &Resize,
     drops: &'a Cell<usize>,
-) -> Result<(), Refusal> {
+) -> Result<(), CellsRefusal> {
     match resize_once(cells, row, drops) {
-        Err(Refusal::Memory) if are_numbered(cells, row.from) && drops.get() == 0 => {
+        Err(CellsRefusal::Memory) if are_numbered(cells, row.from) && drops.get() == 0 => {
             resize_once(cells, row, drops)
         }
         answer => answer,
@@ -220,7 +228,8 @@ fn first_other_resize(alloc: Global) -> Option<(usize, usize)> {
     None
 }
 
-/// Replaces the second of three cells. Returns the number of the old cell, and the numbers of the three cells.
+/// Replaces the second of three cells. Returns the number of the old cell, and the numbers of the
+/// three cells.
 fn replaced<'a>(
     cells: &mut Cells<Counted<'a>>,
     drops: &'a Cell<usize>,
@@ -258,33 +267,34 @@ fn each_cell_is_dropped_once(rt: HostRuntime) {
     );
 }
 
-/// Makes cells of one value, and fails at the index `refuse`.
+/// Makes cells of one value. Err: an allocation fails, or the index is `refuse`.
 pub fn made<T: Copy>(
     alloc: Global,
     len: usize,
     refuse: usize,
     value: T,
-) -> Result<Cells<T>, Refusal> {
+) -> Result<Cells<T>, CellsRefusal> {
     Cells::filled_by(alloc, len, |i| {
         if i == refuse {
-            return Err(Refusal::At(i));
+            return Err(CellsRefusal::At(i));
         }
-        Ok::<T, Refusal>(value)
+        Ok::<T, CellsRefusal>(value)
     })
 }
 
-/// Returns whether a fill of the largest number of cells of size 0 fails at the given index. If an allocation fails,
-/// the fill is repeated once.
+/// Returns whether a fill of the largest number of cells of size 0 fails at the given index. If an
+/// allocation fails, the fill is repeated once.
 fn are_many(alloc: Global) -> bool {
     match made(alloc, 1 << 62, 2, ()) {
-        Err(Refusal::Memory) => made(alloc, 1 << 62, 2, ()).err() == Some(Refusal::At(2)),
-        answer => answer.err() == Some(Refusal::At(2)),
+        Err(CellsRefusal::Memory) => made(alloc, 1 << 62, 2, ()).err() == Some(CellsRefusal::At(2)),
+        answer => answer.err() == Some(CellsRefusal::At(2)),
     }
 }
 
-/// 2 ^ 62 values of size 0 need no bytes and fit in a block; 2 ^ 59 values of sixteen bytes would need 2 ^ 63 bytes.
+/// Returns whether the number of cells is bounded by their bytes. 2 ^ 62 values of size 0 need no
+/// bytes and fit in a block; 2 ^ 59 values of sixteen bytes would need 2 ^ 63 bytes.
 fn are_bounded(alloc: Global) -> bool {
-    are_many(alloc) && made(alloc, 1 << 59, 2, 7u128).err() == Some(Refusal::Memory)
+    are_many(alloc) && made(alloc, 1 << 59, 2, 7u128).err() == Some(CellsRefusal::Memory)
 }
 
 /// Returns whether a row has the size of one word, and cells have that of two.

@@ -1,13 +1,13 @@
-//! The encoding of a single log record, and the place that is reported if a record is cut off. The tests of the
-//! program check everything else that is encoded and decoded.
+//! The encoding of a single log record, and the place that is reported if a record is cut off. The
+//! tests of the program check everything else that is encoded and decoded.
 use crate::asserts::expect;
 use oa_image::{ImageFault, event_len, read_event, write_event};
 use oa_table::Event;
 use std::alloc::Global;
 use std::rt::HostRuntime;
 
-/// The encoding of a put of 7 into a property of object 1. The first ten bytes end within the interface identifier,
-/// which begins at byte 5.
+/// The encoding of a put of 7 into a property of object 1. The first ten bytes end within the
+/// interface identifier, which begins at byte 5.
 static PUT: [u8; 33] = [
     3, 1, 0, 0, 0, 0x44, 0x33, 0x22, 0x11, 0x66, 0x55, 0x88, 0x77, 0x99, 0xaa, 0xbb, 0xcc, 0xdd,
     0xee, 0xff, 2, 1, 0, 0, 0, 0, 0, 3, 0, 7, 0, 0, 0,

@@ -1,6 +1,10 @@
-//! Tests of values, their encodings, and the strings and tables that contain them, for what no request reaches.
+//! Tests of values, their encodings, and the strings and tables that contain them, for what no
+//! request reaches.
 //!
 //! Contract: safety, as of every function; the tests contain the expected values.
+//!
+//! A private function returns None if an allocation fails, or if something else happens than the test
+//! expects; one that searches returns None if it finds nothing.
 //!
 //! Used by no crate.
 #![tactic(auto)]

@@ -1,9 +1,10 @@
-//! Facts about the values of the standards that no request reaches: which types are signed, and how characters that
-//! names cannot contain are folded.
+//! Facts about the values of the standards that no request reaches: which types are signed, and how
+//! characters that names cannot contain are folded.
 use crate::asserts::{assert_none, expect};
 use oa_model::{HResult, VarType, fold, laws};
 use std::rt::HostRuntime;
 
+/// Each type, and whether its values are signed numbers.
 const SIGNED: [(VarType, bool); 18] = [
     (VarType::Empty, false),
     (VarType::Null, false),
@@ -35,6 +36,7 @@ fn first_other_type() -> Option<VarType> {
     None
 }
 
+/// Characters, and their folded forms.
 const FOLDED: [(u8, u8); 10] = [
     (b'A', b'a'),
     (b'Z', b'z'),
@@ -58,8 +60,8 @@ fn first_other_fold() -> Option<u8> {
     None
 }
 
-/// Returns whether 0 is a success and E_FAIL is not, and whether the number of an array type is not that of a scalar
-/// type.
+/// Returns whether 0 is a success and E_FAIL is not, and whether the number of an array type is not
+/// that of a scalar type.
 fn are_numbers() -> bool {
     HResult::S_OK.is_ok() && !HResult::E_FAIL.is_ok() && VarType::from_vt(0x2003).is_none()
 }

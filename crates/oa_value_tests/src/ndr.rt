@@ -1,10 +1,12 @@
-//! The position of a reader after a read that is too short, and a writer that begins after other bytes.
+//! The position of a reader after a read that is too short, and a writer that begins after other
+//! bytes.
 use crate::asserts::expect;
 use oa_ndr::{Ndr, NdrOut};
 use std::alloc::Global;
 use std::rt::HostRuntime;
 
-/// Returns for each kind of part whether its read fails with two bytes left at an unaligned position.
+/// Returns for each kind of part whether its read fails with two bytes left at an unaligned
+/// position.
 fn are_short(reader: &mut Ndr<'_>) -> [bool; 6] {
     [
         reader.u16().is_err(),
@@ -16,8 +18,8 @@ fn are_short(reader: &mut Ndr<'_>) -> [bool; 6] {
     ]
 }
 
-/// Reads parts after the first five of these bytes. Returns which reads fail, the position of the reader then, and
-/// the byte there.
+/// Reads parts after the first five of these bytes. Returns which reads fail, the position of the
+/// reader then, and the byte there.
 fn behind_five(bytes: &[u8]) -> ([bool; 6], usize, Option<u8>) {
     let mut reader = Ndr::new(bytes);
     let _ = reader.bytes(5);
@@ -25,8 +27,8 @@ fn behind_five(bytes: &[u8]) -> ([bool; 6], usize, Option<u8>) {
     (short, reader.position(), reader.u8().ok())
 }
 
-/// Writes a byte and a number. Returns the positions after these, after a truncation to a greater length, and after
-/// one to the byte.
+/// Writes a byte and a number. Returns the positions after these, after a truncation to a greater
+/// length, and after one to the byte.
 fn cut(writer: &mut NdrOut) -> [usize; 3] {
     let _ = writer.u8(1);
     let _ = writer.u32(9);
@@ -37,7 +39,8 @@ fn cut(writer: &mut NdrOut) -> [usize; 3] {
     [behind, uncut, writer.position()]
 }
 
-/// Returns whether a writer that begins after a byte of another field counts from its own start, and returns both.
+/// Returns whether a writer that begins after a byte of another field counts from its own start,
+/// and returns both.
 fn is_cut(alloc: Global) -> bool {
     let mut before = Vec::new(alloc);
     let _ = before.push(7);

@@ -1,5 +1,5 @@
-//! A value that is written after other fields, a scalar by itself, and the opcode of a body. The tests of the program
-//! check the other fields of replies.
+//! A value that is written after other fields, a scalar by itself, and the opcode of a body. The
+//! tests of the program check the other fields of replies.
 use crate::asserts::expect;
 use crate::shown::is_shown;
 use oa_ndr::Ndr;

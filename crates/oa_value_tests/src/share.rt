@@ -1,12 +1,13 @@
-//! Decoding the frames of three clients: the bodies and stream ends of each client, and their order.
+//! Decoding the frames of three clients: the bodies and stream ends of each client, and their
+//! order.
 use crate::asserts::expect;
 use oa_frame::End;
-use oa_share::{Clients, FrameHead, What};
+use oa_mux::{ClientItem, Clients, FrameHead};
 use std::alloc::Global;
 use std::rt::HostRuntime;
 
-/// One item of a stream: the client, a letter and a length. `B` is a body of that many bytes; `C`, `E`, `L` and `Z`
-/// are ends of a client's stream; `N` is *now*.
+/// One item of a stream: the client, a letter and a length. `B` is a body of that many bytes; `C`,
+/// `E`, `L` and `Z` are ends of a client's stream; `N` is *now*.
 type Brought = (u32, char, usize);
 
 /// Adds the items that the bytes of one frame complete.
@@ -22,10 +23,10 @@ fn of_frame(
         }
         let step = clients.step(client, bytes).ok()?;
         match &step.what {
-            What::Nothing => {}
-            What::Body(record) => all.push((client, 'B', record.body().len())).ok()?,
-            What::Ends(End::TooLong) => all.push((client, 'L', 0)).ok()?,
-            What::Ends(_) => all.push((client, 'Z', 0)).ok()?,
+            ClientItem::Nothing => {}
+            ClientItem::Body(record) => all.push((client, 'B', record.body().len())).ok()?,
+            ClientItem::Ends(End::TooLong) => all.push((client, 'L', 0)).ok()?,
+            ClientItem::Ends(_) => all.push((client, 'Z', 0)).ok()?,
         }
         bytes = bytes.get(step.taken..)?;
     }
@@ -57,7 +58,7 @@ fn of_frames(alloc: Global, mut input: &[u8]) -> Option<Vec<Brought>> {
                 input = input.get(count..)?;
             }
             FrameHead::Last(client) => of_end(&mut clients, client, &mut all)?,
-            FrameHead::Now => all.push((0, 'N', 0)).ok()?,
+            FrameHead::Flush => all.push((0, 'N', 0)).ok()?,
             FrameHead::Unknown => break,
         }
     }
@@ -69,12 +70,14 @@ fn of_frames(alloc: Global, mut input: &[u8]) -> Option<Vec<Brought>> {
     Some(all)
 }
 
+/// A test of frames: its name, the frames, and their items.
 struct Row {
     name: &'static str,
     frames: &'static [u8],
     brought: &'static [Brought],
 }
 
+/// The tests.
 const ROWS: [Row; 6] = [
     Row {
         name: "two records in one frame, and the end",

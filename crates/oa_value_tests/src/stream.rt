@@ -1,12 +1,14 @@
-//! The effect of each result of a writer of the standard library, and what the buffers return. The tests of the
-//! program check the results of readers, and sessions over readers that cut and are interrupted.
+//! The effect of each result of a writer of the standard library, and what the buffers return. The
+//! tests of the program check the results of readers, and sessions over readers that cut and are
+//! interrupted.
 ghost use Rattle.std.specs.Prelude.{false, ◌≡◌};
 
 use crate::asserts::expect;
 use crate::stream::Step::{Ends, Fails, Interrupts, Moves};
 use oa_frame::laws;
 use oa_stream::{
-    Ahead, Cutting, Gathered, Interrupted, More, Next, Outlet, Sink, Source, Unwritten,
+    BufferedSource, ChunkedSource, Interrupted, More, Next, Sink, Source, StdSink, Unwritten,
+    VecSink,
 };
 use std::alloc::Global;
 use std::io::{self, ErrorKind, Write};
@@ -29,6 +31,7 @@ struct Scripted<'a> {
 }
 
 impl<'a> Scripted<'a> {
+    /// Returns the result of the next call.
     fn next(&mut self) -> io::Result<usize> {
         let step = self.steps.get(self.calls).copied();
         self.calls = self.calls.saturating_add(1);
@@ -53,8 +56,8 @@ impl<'a> Write for Scripted<'a> {
     }
 }
 
-// Bytes that are put and delivered twice, the results of the calls of the writer, the expected result, and the number
-// of calls.
+// Bytes that are put and delivered twice, the results of the calls of the writer, the expected
+// result, and the number of calls.
 struct Writing {
     name: &'static str,
     bytes: &'static [u8],
@@ -70,6 +73,7 @@ macro_rules! writings {
     };
 }
 
+/// The tests of writers.
 static WRITINGS: [Writing; 9] = writings! {
     "no flush if nothing was written": &[], [] => Ok(()), 0;
     "two writes and a flush": &[1, 2], [Moves, Moves, Moves] => Ok(()), 3;
@@ -91,12 +95,13 @@ fn put<W: Sink>(writer: &mut W, bytes: &[u8]) -> Result<(), Unwritten>
     writer.deliver()
 }
 
+/// Returns the result of a test, and the number of calls of the writer.
 fn written(row: &Writing) -> (Result<(), Unwritten>, usize) {
     let mut writer = Scripted {
         steps: row.steps,
         calls: 0,
     };
-    let result = put(&mut Outlet::new(&mut writer), row.bytes);
+    let result = put(&mut StdSink::new(&mut writer), row.bytes);
     (result, writer.calls)
 }
 
@@ -107,13 +112,14 @@ fn an_interrupted_write_is_made_again_and_a_failed_one_is_not(rt: HostRuntime) {
     }
 }
 
-/// Returns whether a buffer is empty, then contains the bytes of one call, and then those after the first byte.
+/// Returns whether a buffer is empty, then contains the bytes of one call, and then those after the
+/// first byte.
 fn shown(alloc: Global) -> [bool; 4] {
-    let Ok(mut reader) = Ahead::new(alloc, Cutting::new(b"abcde", &[2])) else {
+    let Ok(mut reader) = BufferedSource::new(alloc, ChunkedSource::new(b"abcde", &[2])) else {
         return [false; 4];
     };
     let is_empty = reader.buffered().is_empty();
-    let is_more = reader.more(&Gathered::new(Vec::new(alloc))) == More::Some;
+    let is_more = reader.more(&VecSink::new(Vec::new(alloc))) == More::Some;
     let is_two = reader.buffered() == b"ab".as_slice();
     let count = reader.buffered().len().min(1);
     reader.advance(count);
@@ -121,8 +127,8 @@ fn shown(alloc: Global) -> [bool; 4] {
     [is_empty, is_more, is_two, is_left]
 }
 
-/// Calls a reader twice that is interrupted once. Returns both results, the number of calls it counts, and the
-/// buffer.
+/// Calls a reader twice that is interrupted once. Returns both results, the number of calls it
+/// counts, and the buffer.
 fn interrupted_once() -> (Next, Next, u64, [u8; 4]) {
     let mut reader = Interrupted::new(b"ab".as_slice(), 1);
     let mut buffer = [0u8; 4];

@@ -1,5 +1,6 @@
-//! The calls of a table that each apply one log record. No request makes them, since a server applies log records.
-//! The tests check their errors, the table after them, and the theorems about tables.
+//! The calls of a table that each apply one log record. No request makes them, since a server
+//! applies log records. The tests check their errors, the table after them, and the theorems about
+//! tables.
 use crate::arrays::array;
 use crate::asserts::expect;
 use oa_array::{ArrayFault, Indices};
@@ -11,12 +12,13 @@ use std::alloc::Global;
 use std::rt::HostRuntime;
 use uuid::Uuid;
 
-/// The cell of a property without parameters, in the object 1.
+/// Returns the cell of the property with this DISPID, without parameters, in object 1.
 pub fn cell(alloc: Global, dispid: i32) -> CellName {
     let place = Place::new(Uuid::nil(), dispid, Vec::new(alloc));
     CellName { object: 1, place }
 }
 
+/// The bounds of the array.
 const BOUNDS: [Bound; 2] = [
     Bound {
         count: 2,
@@ -25,7 +27,7 @@ const BOUNDS: [Bound; 2] = [
     Bound { count: 3, lower: 5 },
 ];
 
-/// A table whose object 1 has an array of zeros in its cell 8.
+/// Returns a table whose object 1 has an array of zeros in its cell 8; None if an allocation fails.
 pub fn with_array(alloc: Global) -> Option<Table> {
     let value = array(alloc, VarType::I2, &BOUNDS)?;
     let mut table = Table::new(alloc);
@@ -67,6 +69,7 @@ fn refusals(alloc: Global, table: &mut Table) -> [Option<TableFault>; 6] {
     ]
 }
 
+/// The errors of the changes.
 const REFUSED: [Option<TableFault>; 6] = [
     Some(TableFault::WrongNumber),
     Some(TableFault::Array(ArrayFault::TypeMismatch)),
@@ -76,7 +79,8 @@ const REFUSED: [Option<TableFault>; 6] = [
     Some(TableFault::NoObject),
 ];
 
-/// The snapshot of the table then: object 1, and in its cell 8 an array of one by three with a 6 in its last element.
+/// The snapshot of the table then: object 1, and in its cell 8 an array of one by three with a 6 in
+/// its last element.
 static LEFT: [u8; 80] = [
     2, 0, 0, 0, 1, 0, 0, 0, 1, 0, 0, 0, 0, 0, 0, 0, 0, 0, 0, 0, 0, 0, 0, 0, 0, 0, 0, 0, 1, 0, 0, 0,
     0, 0, 0, 0, 0, 0, 0, 0, 0, 0, 0, 0, 0, 0, 0, 0, 8, 0, 0, 0, 0, 0, 2, 32, 2, 0, 1, 0, 0, 0, 0,
@@ -90,7 +94,8 @@ fn is_imaged(alloc: Global, table: &Table, wanted: &[u8]) -> bool {
     is_written && image.as_slice() == wanted
 }
 
-/// Returns whether the changes have these results, and whether the table is empty after its object is released.
+/// Returns whether the changes have these results, and whether the table is empty after its object
+/// is released.
 fn is_changed(alloc: Global, table: &mut Table) -> [bool; 4] {
     [
         refusals(alloc, table) == REFUSED,
@@ -100,6 +105,7 @@ fn is_changed(alloc: Global, table: &mut Table) -> [bool; 4] {
     ]
 }
 
+/// Returns whether the changes of a table have their results; None if an allocation fails.
 fn changes(alloc: Global) -> Option<[bool; 4]> {
     let mut table = with_array(alloc)?;
     Some(is_changed(alloc, &mut table))

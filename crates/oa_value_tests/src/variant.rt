@@ -1,5 +1,5 @@
-//! Calls that allocate, with enough memory; the value that a failed coercion returns; the size of a cell. The tests
-//! of the program check coercions and the order of keys.
+//! Calls that allocate, with enough memory; the value that a failed coercion returns; the size of a
+//! cell. The tests of the program check coercions and the order of keys.
 use crate::arrays::locked;
 use crate::asserts::expect;
 use crate::shown::is_shown;

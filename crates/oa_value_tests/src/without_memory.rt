@@ -1,6 +1,6 @@
-//! Calls that allocate nothing, one after another, on values that are made first. With enough memory each call
-//! succeeds; `tests/program/test_raw_memory.py` fails all allocations from each call of the allocator on, and then
-//! the values are not made.
+//! Calls that allocate nothing, one after another, on values that are made first. With enough
+//! memory each call succeeds; `tests/program/test_raw_memory.py` fails all allocations from each
+//! call of the allocator on, and then the values are not made.
 use crate::arrays::array;
 use crate::asserts::expect;
 use crate::bstr::{ODD, is_told};
@@ -10,7 +10,7 @@ use oa_array::SafeArray;
 use oa_bstr::Bstr;
 use oa_cells::Cells;
 use oa_idl::parse;
-use oa_image::Pieces;
+use oa_image::ImageChunks;
 use oa_model::{Bound, ValueType, VarType};
 use oa_ndr::Ndr;
 use oa_record::{RecordFault, read_request, tag_of};
@@ -22,6 +22,7 @@ use std::alloc::Global;
 use std::rt::HostRuntime;
 use uuid::Uuid;
 
+/// Returns whether a string has its bytes, and null none; None if an allocation fails.
 fn text(alloc: Global) -> Option<bool> {
     let text = Bstr::from_bytes(alloc, &ODD).ok()?;
     Some(is_told(&text) && Bstr::null().is_null())
@@ -32,11 +33,13 @@ fn is_replaced(cells: &mut Cells<u8>) -> bool {
     cells.len() == 2 && *cells.get(0) == 7 && cells.replace(1, 9) == 7
 }
 
+/// Returns whether one of two cells is replaced; None if an allocation fails.
 fn cells(alloc: Global) -> Option<bool> {
     let mut cells = made(alloc, 2, 2, 7u8).ok()?;
     Some(is_replaced(&mut cells))
 }
 
+/// The bound of an array of two elements.
 const TWO: [Bound; 1] = [Bound { count: 2, lower: 0 }];
 
 /// Returns whether an element of a locked array is put and found.
@@ -53,6 +56,7 @@ fn is_put(array: &mut SafeArray<Scalar>) -> bool {
     found == [true; 7]
 }
 
+/// Returns whether an element of a locked array is put and found; None if an allocation fails.
 fn elements(alloc: Global) -> Option<bool> {
     let mut array: SafeArray<Scalar> = SafeArray::create(alloc, VarType::I4, &TWO).ok()?;
     Some(is_put(&mut array))
@@ -113,6 +117,7 @@ fn are_told(alloc: Global, rows: &[Row]) -> bool {
     true
 }
 
+/// Returns whether an array is measured and each body has its result; None if an allocation fails.
 fn fields(alloc: Global) -> Option<bool> {
     let value = array(alloc, VarType::I4, &TWO)?;
     Some(is_measured(&value) && are_told(alloc, &BODIES))
@@ -127,13 +132,14 @@ fn is_locked(table: &mut Table, name: &CellName) -> bool {
         table.get(name).is_some(),
         table.class_of(1).is_some(),
         table.next() == 2,
-        Pieces::new(table).fill(&mut front) == 8,
+        ImageChunks::new(table).fill(&mut front) == 8,
         table.size_after(&Event::Release { number: 2 }) == table.image_size(),
         table.unlock(name).is_ok(),
     ];
     found == [true; 8] && front[0] == 2
 }
 
+/// Returns whether the array in a cell is locked; None if an allocation fails.
 fn table(alloc: Global) -> Option<bool> {
     let mut table = with_array(alloc)?;
     Some(is_locked(&mut table, &cell(alloc, 8)))
@@ -165,6 +171,7 @@ fn is_found(library: &Library) -> bool {
     }
 }
 
+/// Returns whether the interfaces of a library are found; None if an allocation fails.
 fn library(alloc: Global) -> Option<bool> {
     let tree = parse(alloc, LIBRARY).ok()?;
     let library = check(alloc, tree).ok()?;

@@ -14,9 +14,10 @@ use Rattle.oa_model.specs.declared.bound.Bound.{Bound}
 use Rattle.oa_model.specs.contracts.var_type.VarType.{the_type as var_type}
 use Rattle.oa_model.specs.contracts.var_type.VarTypePartialEq.TheImpl.{ghosts as of_types}
 use Rattle.oa_model.specs.contracts.bound.BoundPartialEq.TheImpl.{ghosts as of_bounds}
-use Rattle.oa_array.specs.Arrays.{ArrayValue}
-use Rattle.oa_variant.specs.Keys.{scalar_cmp, scalars_total}
-use Rattle.oa_variant.specs.Variants.{unlocked}
+use Rattle.oa_array.specs.promise.Arrays.{ArrayValue}
+use Rattle.oa_variant.specs.promise.Keys.{scalar_cmp}
+use Rattle.oa_variant.specs.Keys.{scalars_total}
+use Rattle.oa_variant.specs.promise.Variants.{unlocked}
 use Rattle.oa_variant.specs.declared.scalar.Scalar.{Scalar}
 use Rattle.oa_variant.specs.declared.variant.Variant.{Variant}
 use Rattle.oa_variant.specs.declared.variant.Variant.TheVariants.{One, Array}

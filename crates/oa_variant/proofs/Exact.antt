@@ -7,11 +7,11 @@ use Rattle.std.specs.declared.cmp.Ordering.{Ordering}
 use Rattle.std.specs.declared.cmp.Ordering.TheVariants.{Less, Equal, Greater}
 use Rattle.std.proofs.lemmas.Map.Lookups.{CmpEqualImpliesEq, exact_unsigned, exact_signed, exact_bytes}
 use Rattle.oa_model.specs.declared.var_type.VarType.{VarType}
-use Rattle.oa_model.specs.Types.{type_at}
-use Rattle.oa_bstr.specs.Text.{text_cmp}
-use Rattle.oa_variant.specs.Decimals.{DecimalValue, decimal_cmp}
-use Rattle.oa_variant.specs.Scalars.{text_of}
-use Rattle.oa_variant.specs.Keys.{key_number, decimal_of, scalar_of, scalar_again, key_type, scalar_cmp}
+use Rattle.oa_model.specs.promise.Types.{type_at}
+use Rattle.oa_bstr.specs.promise.Text.{text_cmp}
+use Rattle.oa_variant.specs.promise.Decimals.{DecimalValue, decimal_cmp}
+use Rattle.oa_variant.specs.promise.Scalars.{text_of}
+use Rattle.oa_variant.specs.promise.Keys.{key_number, decimal_of, scalar_of, scalar_again, key_type, scalar_cmp}
 use Rattle.oa_variant.specs.declared.scalar.Scalar.{Scalar}
 use Rattle.oa_variant.specs.declared.scalar.Scalar.TheVariants as scalars
 
@@ -50,8 +50,11 @@ made_back (scalars.Bool b) = scalar_again (scalars.Bool b)
 made_back s = scalar_again s
 
 pub exact_scalars : CmpEqualImpliesEq scalar_cmp
-exact_scalars a b e = let h = both_equal (nat_cmp (key_type a) (key_type b)) (ordering_then (int_cmp (key_number a) (key_number b)) (ordering_then (text_cmp (text_of a) (text_of b)) (decimal_cmp (decimal_of a) (decimal_of b)))) e in
-    let k = both_equal (int_cmp (key_number a) (key_number b)) (ordering_then (text_cmp (text_of a) (text_of b)) (decimal_cmp (decimal_of a) (decimal_of b))) h.1 in
+exact_scalars a b e = let h =
+    both_equal (nat_cmp (key_type a) (key_type b))
+    (ordering_then (int_cmp (key_number a) (key_number b)) (ordering_then (text_cmp (text_of a) (text_of b)) (decimal_cmp (decimal_of a) (decimal_of b)))) e in
+    let k = both_equal (int_cmp (key_number a) (key_number b)) (ordering_then (text_cmp (text_of a) (text_of b)) (decimal_cmp (decimal_of a) (decimal_of b)))
+    h.1 in
     let l = both_equal (text_cmp (text_of a) (text_of b)) (decimal_cmp (decimal_of a) (decimal_of b)) k.1 in
     let n = exact_unsigned (key_type a) (key_type b) h.0 in
     let z = exact_signed (key_number a) (key_number b) k.0 in

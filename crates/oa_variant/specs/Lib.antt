@@ -2,3 +2,4 @@ pub mod Decimals
 pub mod Keys
 pub mod Scalars
 pub mod Variants
+pub mod promise

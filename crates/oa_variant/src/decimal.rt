@@ -2,7 +2,8 @@
 ghost use Rattle.std.specs.Prelude.{◌≡◌, ◌≤◌, ◌<◌, ◌^◌};
 ghost use Rattle.std.specs.Cmp.{partial_equiv_from_equiv, eq_by_cmp_equiv};
 ghost use Rattle.std.specs.Ordering.{eq_by_cmp};
-ghost use Rattle.oa_variant.specs.Decimals.{decimal_cmp, decimals_total};
+ghost use Rattle.oa_variant.specs.promise.Decimals.{decimal_cmp};
+ghost use Rattle.oa_variant.specs.Decimals.{decimals_total};
 
 use std::cmp::Ordering;
 use std::marker::Model;
@@ -10,11 +11,12 @@ use std::marker::Model;
 /// The weight of the high bits of a magnitude, which follow its 64 low bits: 2^64.
 const ABOVE_LOW: u128 = 0x1_0000_0000_0000_0000;
 
-/// A DECIMAL (MS-OAUT section 2.2.26): a sign, a scale from 0 to 28 and a magnitude below 2^96. Its number is sign × magnitude / 10^scale.
-/// The scale, and the sign of a zero, are part of the value. There is no `<`, since the order of keys (`key_cmp`) is not that of the
-/// numbers.
+/// A DECIMAL (MS-OAUT section 2.2.26): a sign, a scale from 0 to 28 and a magnitude below 2^96. Its
+/// number is sign × magnitude / 10^scale. The scale, and the sign of a zero, are part of the value.
+/// There is no `<`, since the order of keys (`key_cmp`) is not that of the numbers.
 ///
-/// The magnitude is stored as its 32 high and 64 low bits, so that an element of an array needs no more bytes for it than for a text.
+/// The magnitude is stored as its 32 high and 64 low bits. So an element of an array needs no more
+/// bytes for it than for a text.
 #[derive(Clone, Copy, Debug)]
 pub struct Decimal {
     negative: bool,
@@ -25,7 +27,7 @@ pub struct Decimal {
 
 impl Model for Decimal {
     ghost use Rattle.std.specs.Prelude.{◌≤◌, ◌<◌, ◌^◌, ◌+◌, ◌*◌};
-    ghost use Rattle.oa_variant.specs.Decimals.{DecimalValue, high_of, low_of, halves};
+    ghost use Rattle.oa_variant.specs.promise.Decimals.{DecimalValue, high_of, low_of, halves};
 
     ghost Value = { DecimalValue };
 
@@ -40,7 +42,8 @@ impl Model for Decimal {
 }
 
 impl Decimal {
-    /// Makes the DECIMAL with this sign, scale (at most 28) and magnitude (below 2^96).
+    /// Makes the DECIMAL with this sign (`negative`: minus), scale (at most 28 decimal places) and
+    /// magnitude (below 2^96).
     pub fn new(negative: bool, scale: u8, magnitude: u128) -> Decimal
         requires { (scale ≤ 28) × (magnitude < 2 ^ 96) }
         ensures { result ≡ record { negative = negative; scale = scale; magnitude = magnitude } }
@@ -76,8 +79,8 @@ impl Decimal {
         self.high as u128 * ABOVE_LOW + self.low as u128
     }
 
-    /// Compares two DECIMALs in the order of keys: by sign (plus first), scale and magnitude, and not by their numbers (this project's
-    /// choice).
+    /// Returns the order of two DECIMALs as keys: by sign (plus first), scale and magnitude, and
+    /// not by their numbers (this project's choice).
     pub(crate) fn key_cmp(&self, other: &Decimal) -> Ordering
         ensures { result ≡ decimal_cmp self.now other.now }
     {

@@ -3,14 +3,16 @@ ghost use Rattle.std.specs.Prelude.{◌≡◌, ◌↔◌, true, All};
 ghost use Rattle.std.specs.declared.cmp.Ordering.TheVariants.{Equal};
 ghost use Rattle.oa_variant.specs.declared.scalar.Scalar.{Scalar as AScalar};
 ghost use Rattle.oa_variant.specs.Scalars.{IsScalar};
-ghost use Rattle.oa_variant.specs.Variants.{IsBound, IsVariant, unlocked};
+ghost use Rattle.oa_variant.specs.Variants.{IsBound, IsVariant};
+ghost use Rattle.oa_variant.specs.promise.Variants.{unlocked};
 ghost use Rattle.oa_variant.specs.declared.variant.Variant.{Variant as AVariant};
-ghost use Rattle.oa_variant.specs.Keys.{scalar_cmp};
+ghost use Rattle.oa_variant.specs.promise.Keys.{scalar_cmp};
 
 use crate::{Scalar, Variant};
 use oa_model::Bound;
 
-/// Proves the invariant of scalars: the number is in the range of its type, the text and the DECIMAL are within their limits.
+/// Proves the invariant of scalars: the number is in the range of its type, the text and the
+/// DECIMAL are within their limits.
 pub fn is_scalar(scalar: &Scalar)
     ensures { IsScalar scalar.now }
 {
@@ -67,8 +69,8 @@ pub fn equal_is_same()
     ensures { (a b : AScalar) → scalar_cmp a b ≡ Equal → a ≡ b }
 {}
 
-/// Proves the invariant of values: their scalars are as `is_scalar` says; an array has an element of its type for each index list, and
-/// bounds of 32 bits.
+/// Proves the invariant of values: their scalars are as `is_scalar` says; an array has an element
+/// of its type for each index list, and bounds of 32 bits.
 pub fn is_variant(value: &Variant)
     ensures { IsVariant value.now }
 {

@@ -4,9 +4,11 @@ ghost use Rattle.std.specs.Cmp.{partial_order_from_total, partial_equiv_from_equ
 ghost use Rattle.std.specs.Cmp.Rules.{comparing};
 ghost use Rattle.std.specs.Ordering.{as_partial_cmp, eq_by_cmp};
 ghost use Rattle.std.proofs.Common.{rules};
-ghost use Rattle.oa_variant.specs.Scalars.{type_of, text_of, zero_of, FitsType, fits_type, zero_fits};
+ghost use Rattle.oa_variant.specs.promise.Scalars.{type_of, text_of, zero_of, FitsType, fits_type};
+ghost use Rattle.oa_variant.specs.Scalars.{zero_fits};
 ghost use Rattle.std.specs.Option.{option_map};
-ghost use Rattle.oa_variant.specs.Keys.{key_number, decimal_of, scalar_cmp, scalars_total};
+ghost use Rattle.oa_variant.specs.promise.Keys.{key_number, decimal_of, scalar_cmp};
+ghost use Rattle.oa_variant.specs.Keys.{scalars_total};
 
 use crate::Decimal;
 use oa_array::Cell;
@@ -15,8 +17,8 @@ use oa_model::VarType;
 use std::alloc::{AllocError, Global};
 use std::cmp::Ordering;
 
-/// A value that is not an array, with its type (MS-OAUT section 2.2.7). Values of different types are different, even if their numbers are
-/// equal.
+/// A value that is not an array, with its type (MS-OAUT section 2.2.7). Values of different types
+/// are different, even if their numbers are equal.
 #[derive(Debug, Drop)]
 pub enum Scalar {
     /// No value.
@@ -139,7 +141,8 @@ impl Cell for Scalar {
 
     ghost zero_fits = { λ elem _. zero_fits elem };
 
-    /// Returns whether the scalar can be an element of an array of this type: it is of that type, or the type is VARIANT.
+    /// Returns whether the scalar can be an element of an array of this type: it is of that type,
+    /// or the type is VARIANT.
     fn fits(&self, elem: VarType) -> bool
         ensures fits { IsTrue result ↔ FitsType self.now elem }
         ensures test { result ≡ fits_type self.now elem }
@@ -147,8 +150,9 @@ impl Cell for Scalar {
         elem == VarType::Variant || self.var_type() == elem
     }
 
-    /// Returns the zero value of a type, which a cell has before its first put: 0, false, a positive DECIMAL 0 of scale 0, the null BSTR,
-    /// EMPTY for EMPTY and VARIANT, NULL for NULL (this project's choice). Allocates nothing.
+    /// Returns the zero value of a type, which a cell has before its first put: 0, false, a
+    /// positive DECIMAL 0 of scale 0, the null BSTR, EMPTY for EMPTY and VARIANT, NULL for NULL
+    /// (this project's choice). Allocates nothing.
     fn zero(elem: VarType) -> Scalar {
         match elem {
             VarType::Empty | VarType::Variant => Scalar::Empty,
@@ -171,8 +175,8 @@ impl Cell for Scalar {
         }
     }
 
-    /// Returns an equal scalar, with a block of its own for a text. Err: the allocation of that block fails; the copy of a scalar without
-    /// text never fails.
+    /// Returns an equal scalar, with a block of its own for a text. Err: the allocation of that
+    /// block fails; the copy of a scalar without text never fails.
     fn copy(&self, alloc: Global) -> Result<Scalar, AllocError>
         ensures value { IfOk result (λ s. s ≡ self.now) }
         ensures no_text { text_of self.now ≡ None → IsOk result }

@@ -2,8 +2,9 @@
 ghost use Rattle.std.specs.Prelude.{◌≡◌, IsOk, IfOk, None};
 ghost use Rattle.oa_model.specs.declared.var_type.VarType.{VarType as AType};
 ghost use Rattle.oa_model.specs.declared.var_type.ValueType.TheVariants as kinds;
-ghost use Rattle.oa_variant.specs.Scalars.{text_of};
-ghost use Rattle.oa_variant.specs.Variants.{value_type_of, fits_declared, unlocked, zero_value, HasZero};
+ghost use Rattle.oa_variant.specs.promise.Scalars.{text_of};
+ghost use Rattle.oa_variant.specs.promise.Variants.{value_type_of, fits_declared, unlocked, zero_value};
+ghost use Rattle.oa_variant.specs.Variants.{HasZero};
 ghost use Rattle.oa_variant.specs.declared.variant.Variant.TheVariants.{One};
 
 use crate::Scalar;
@@ -11,8 +12,8 @@ use oa_array::{Cell, SafeArray};
 use oa_model::{Bound, ValueType, VarType};
 use std::alloc::{AllocError, Global};
 
-/// A value with its type (VARIANT, MS-OAUT section 2.2.29): a scalar, or an array of scalars. Two are equal if their types and contents
-/// are; the locks of an array are not compared.
+/// A value with its type (VARIANT, MS-OAUT section 2.2.29): a scalar, or an array of scalars. Two
+/// are equal if their types and contents are; the locks of an array are not compared.
 #[derive(Debug, PartialEq, Eq, Drop)]
 pub enum Variant {
     /// A value that is not an array.
@@ -32,8 +33,8 @@ impl Variant {
         }
     }
 
-    /// Returns whether the value can be that of a property of the declared type: it is of that type, or the type is VARIANT, which allows
-    /// arrays too.
+    /// Returns whether the value can be that of a property of the declared type: it is of that
+    /// type, or the type is VARIANT, which allows arrays too.
     pub fn fits(&self, declared: ValueType) -> bool
         ensures { result ≡ fits_declared self.now declared }
     {
@@ -45,8 +46,8 @@ impl Variant {
         }
     }
 
-    /// Returns an equal value in memory of its own. The copy of an array has no locks. Err: an allocation fails; the copy of a scalar
-    /// without text never fails.
+    /// Returns an equal value in memory of its own. The copy of an array has no locks. Err: an
+    /// allocation fails; the copy of a scalar without text never fails.
     pub fn copy(&self, alloc: Global) -> Result<Variant, AllocError>
         ensures value { IfOk result (λ v. v ≡ unlocked self.now) }
         ensures no_text { (s : _) → self.now ≡ One s → text_of s ≡ None → IsOk result }
@@ -67,9 +68,10 @@ impl Variant {
         }
     }
 
-    /// Returns the zero value of a declared type, which a cell has before its first put: the zero value of a scalar type, or for an array
-    /// type, which must have an sfType, the array of one dimension without indices (this project's choice). Err: an allocation fails; the
-    /// zero value of a scalar type needs none.
+    /// Returns the zero value of a declared type, which a cell has before its first put (this
+    /// project's choice). For a scalar type it is the zero value of that type. For an array type,
+    /// which must have an sfType, it is the array of one dimension without indices. Err: an
+    /// allocation fails; the zero value of a scalar type needs none.
     pub fn zero(alloc: Global, declared: ValueType) -> Result<Variant, AllocError>
         requires { HasZero declared }
         ensures value { IfOk result (λ v. v ≡ zero_value declared) }

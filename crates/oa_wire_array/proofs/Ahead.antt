@@ -1,20 +1,27 @@
 -- Elements without pointees need their bytes: if these are not there, nothing is read.
 use Rattle.std.proofs.Common.{◌≡◌, ℕ, zero, suc, ◌+◌, ◌*◌, ◌<◌, ◌≤◌, false, not, eqb, leb, List, ◌∷◌, length, Option, Some, None}
-use Rattle.std.proofs.Common.{refl, ap, arith}
+use Rattle.std.proofs.Common.{Bool, true, refl, ap, arith}
+use Rattle.std.specs.Prelude.{pos}
 use Rattle.std.proofs.lemmas.Bool.{leb-false}
 use Rattle.std.proofs.lemmas.Option.{none-some}
-use Rattle.std.specs.Int.{Width, w8, w16, w32, w64, cast_signed}
-use Rattle.oa_ndr.specs.Reading.{Cursor, Reading, and_then, bind, give, unit_at, many}
+use Rattle.std.specs.Int.{Width, cast_signed}
+use Rattle.oa_ndr.specs.promise.Reading.{Cursor, Decoder, and_then, bind, give, many}
+use Rattle.oa_ndr.specs.Reading.{unit_at}
 use Rattle.oa_model.specs.declared.var_type.VarType.{VarType}
 use Rattle.oa_model.specs.declared.var_type.VarType.TheVariants as types
+use Rattle.oa_model.specs.promise.Types.{is_signed_type}
+use Rattle.oa_variant.specs.promise.Decimals.{zero_decimal}
+use Rattle.oa_variant.specs.promise.Keys.{scalar_of}
+use Rattle.oa_wire_array.specs.promise.Scalars.{width_of}
+use Rattle.oa_wire_array.proofs.Widths.{number_bytes}
 use Rattle.oa_variant.specs.declared.scalar.Scalar.{Scalar}
 use Rattle.oa_variant.specs.declared.scalar.Scalar.TheVariants as scalars
-use Rattle.oa_wire_array.specs.Reading.{signed_at, truth_at, arm_at}
+use Rattle.oa_wire_array.specs.Reading.{signed_at, truth_at, integer_at, arm_at}
 use Rattle.oa_wire_array.specs.ArrayCanon.{plain_width}
 use Rattle.oa_wire_text.proofs.Memory.{unit_there}
 
 -- A decoder that returns a value has moved past at least n bytes.
-abbrev Takes_bytes : {A : Type 0} → ℕ → Reading A → Type 0
+abbrev Takes_bytes : {A : Type 0} → ℕ → Decoder A → Type 0
 Takes_bytes {A} n read = (s t : Cursor) (x : A) → read s ≡ Some (x, t) → n + length t.rest ≤ length s.rest
 
 unit_takes : (n : ℕ) → Takes_bytes n (unit_at n)
@@ -26,7 +33,7 @@ end_of d None = d
 end_of d (Some x) = x.1
 
 -- as does one of a value that is made of it
-made_of : {A B : Type 0} (n : ℕ) (read : Reading A) (make : A → B) → Takes_bytes n read → Takes_bytes n (bind read (λ x. give (make x)))
+made_of : {A B : Type 0} (n : ℕ) (read : Decoder A) (make : A → B) → Takes_bytes n read → Takes_bytes n (bind read (λ x. give (make x)))
 unfolding bind give
 made_of {A} {B} n read make takes s t y e = behind (read s) refl e
   where
@@ -38,20 +45,27 @@ signed_takes : (n : ℕ) (w : Width) → Takes_bytes n (signed_at n w)
 unfolding signed_at
 signed_takes n w = made_of n (unit_at n) (cast_signed w) (unit_takes n)
 
+number_takes : (signed : Bool) (n : ℕ) → Takes_bytes n (integer_at signed n)
+unfolding integer_at
+number_takes true n = signed_takes n (width_of n)
+number_takes false n = made_of n (unit_at n) pos (unit_takes n)
+
 -- n of them move past n times as many bytes.
-behind_first : {A : Type 0} (w n : ℕ) (read : Reading A) → Takes_bytes w read → Takes_bytes (n * w) (many read n) → Takes_bytes (suc n * w) (many read (suc n))
+behind_first : {A : Type 0} (w n : ℕ) (read : Decoder A) → Takes_bytes w read → Takes_bytes (n * w) (many read n) → Takes_bytes (suc n * w) (many read (suc n))
 unfolding many bind give
 behind_first {A} w n read takes rest s t xs e = first (read s) refl e
   where
-    others : (x : A) (u : Cursor) (o : Option (List A × Cursor)) → many read n u ≡ o → and_then o (λ ys. give (x ∷ ys)) ≡ Some (xs, t) → n * w + length t.rest ≤ length u.rest
+    others : (x : A) (u : Cursor) (o : Option (List A × Cursor)) → many read n u ≡ o → and_then o (λ ys. give (x ∷ ys)) ≡ Some (xs, t)
+        → n * w + length t.rest ≤ length u.rest
     others x u None r q = absurd (none-some (xs, t) q)
     others x u (Some ys) r q = let last : ys.1 ≡ t = ap (end_of u) q in rw (← last) (rest u ys.1 ys.0 r)
 
-    first : (o : Option (A × Cursor)) → read s ≡ o → and_then o (λ x. bind (many read n) (λ ys. give (x ∷ ys))) ≡ Some (xs, t) → suc n * w + length t.rest ≤ length s.rest
+    first : (o : Option (A × Cursor)) → read s ≡ o → and_then o (λ x. bind (many read n) (λ ys. give (x ∷ ys))) ≡ Some (xs, t)
+        → suc n * w + length t.rest ≤ length s.rest
     first None r q = absurd (none-some (xs, t) q)
     first (Some x) r q = omega (arith, takes s x.1 x.0 r, others x.0 x.1 (many read n x.1) refl q)
 
-many_take : {A : Type 0} (w : ℕ) (read : Reading A) → Takes_bytes w read → (n : ℕ) → Takes_bytes (n * w) (many read n)
+many_take : {A : Type 0} (w : ℕ) (read : Decoder A) → Takes_bytes w read → (n : ℕ) → Takes_bytes (n * w) (many read n)
 unfolding many give
 many_take {A} w read takes zero s t xs e = let last : s ≡ t = ap (end_of s) e in omega (arith, ap (λ (c : Cursor). length c.rest) last)
 many_take {A} w read takes (suc n) s t xs e = behind_first w n read takes (many_take w read takes n) s t xs e
@@ -59,24 +73,15 @@ many_take {A} w read takes (suc n) s t xs e = behind_first w n read takes (many_
 -- each of the types with a width
 arm_takes : (t : VarType) → 0 < plain_width t → Takes_bytes (plain_width t) (arm_at t)
 unfolding arm_at truth_at
-arm_takes types.I1 some = made_of 1 (signed_at 1 w8) scalars.I1 (signed_takes 1 w8)
-arm_takes types.Ui1 some = made_of 1 (unit_at 1) scalars.Ui1 (unit_takes 1)
-arm_takes types.I2 some = made_of 2 (signed_at 2 w16) scalars.I2 (signed_takes 2 w16)
-arm_takes types.Ui2 some = made_of 2 (unit_at 2) scalars.Ui2 (unit_takes 2)
 arm_takes types.Bool some = made_of 2 (bind (unit_at 2) (λ x. give (not (eqb x 0)))) scalars.Bool (made_of 2 (unit_at 2) (λ x. not (eqb x 0)) (unit_takes 2))
-arm_takes types.I4 some = made_of 4 (signed_at 4 w32) scalars.I4 (signed_takes 4 w32)
-arm_takes types.Ui4 some = made_of 4 (unit_at 4) scalars.Ui4 (unit_takes 4)
-arm_takes types.Int some = made_of 4 (signed_at 4 w32) scalars.Int (signed_takes 4 w32)
-arm_takes types.Uint some = made_of 4 (unit_at 4) scalars.Uint (unit_takes 4)
-arm_takes types.I8 some = made_of 8 (signed_at 8 w64) scalars.I8 (signed_takes 8 w64)
-arm_takes types.Ui8 some = made_of 8 (unit_at 8) scalars.Ui8 (unit_takes 8)
-arm_takes types.Cy some = made_of 8 (signed_at 8 w64) scalars.Cy (signed_takes 8 w64)
 arm_takes types.Empty some = absurd (omega (arith, some))
 arm_takes types.Null some = absurd (omega (arith, some))
 arm_takes types.Error some = absurd (omega (arith, some))
 arm_takes types.Decimal some = absurd (omega (arith, some))
 arm_takes types.Bstr some = absurd (omega (arith, some))
 arm_takes types.Variant some = absurd (omega (arith, some))
+arm_takes t some = made_of (number_bytes t) (integer_at (is_signed_type t) (number_bytes t)) (λ z. scalar_of t z None zero_decimal)
+    (number_takes (is_signed_type t) (number_bytes t))
 
 -- If there are fewer bytes than the elements need, the elements are not read.
 pub no_cells : (t : VarType) (n : ℕ) (s : Cursor) → leb (n * plain_width t) (length s.rest) ≡ false → many (arm_at t) n s ≡ None
@@ -91,4 +96,5 @@ no_cells t n s few = tried (plain_width t) refl
       where
         outcome : (o : Option (List Scalar × Cursor)) → many (arm_at t) n s ≡ o → o ≡ None
         outcome None r = refl
-        outcome (Some x) r = let there = many_take (plain_width t) (arm_at t) (arm_takes t (omega (arith, e))) n s x.1 x.0 r in absurd (omega (arith, there, short))
+        outcome (Some x) r = let there = many_take (plain_width t) (arm_at t) (arm_takes t (omega (arith, e))) n s x.1 x.0 r in
+            absurd (omega (arith, there, short))

@@ -6,26 +6,27 @@ use Rattle.std.specs.List.{AllByRecursion}
 use Rattle.std.proofs.lemmas.Bool.{eqb-true, eq-eqb, leb-true, le-leb, ltb-true, lt-ltb, and_parts, and_from, true≢false}
 use Rattle.std.proofs.lemmas.Bool.{false_from_ne_true}
 use Rattle.std.proofs.lemmas.List.Elements.{All-from_recursion, All-head, All-tail}
-use Rattle.oa_model.specs.Limits.{max_dimensions, max_cells}
-use Rattle.oa_ndr.specs.Forms.{◌▸◌, unit, referent, each, given, made}
-use Rattle.oa_ndr.specs.Reading.{Cursor, Reading, many}
+use Rattle.oa_model.specs.promise.Limits.{max_dimensions, max_cells}
+use Rattle.oa_ndr.specs.promise.Forms.{◌▸◌, unit, referent, each, given, made}
+use Rattle.oa_ndr.specs.promise.Reading.{Cursor, Decoder, many}
 use Rattle.oa_ndr.proofs.Laws.{Reads, Always, all_always, give_reads, fail_reads, choose_reads, unit_reads, referent_reads, bind_reads}
 use Rattle.oa_ndr.proofs.Laws.{with_reads, ignored_then, same_values, made_reads, made_from, many_reads, pairwise_reads, pairwise_length}
 use Rattle.oa_model.specs.declared.bound.Bound.{Bound}
 use Rattle.oa_model.specs.declared.var_type.VarType.{VarType}
 use Rattle.oa_model.specs.declared.var_type.VarType.TheVariants as types
-use Rattle.oa_model.specs.Types.{sf_type_of}
-use Rattle.oa_array.specs.Arrays.{ArrayValue, IsArrayShape}
-use Rattle.oa_array.specs.Boxes.{box_size}
-use Rattle.oa_variant.specs.Scalars.{type_of, FitsType}
+use Rattle.oa_model.specs.promise.Types.{sf_type_of}
+use Rattle.oa_array.specs.promise.Arrays.{ArrayValue, IsArrayShape}
+use Rattle.oa_array.specs.promise.Boxes.{box_size}
+use Rattle.oa_variant.specs.promise.Scalars.{type_of, FitsType}
 use Rattle.oa_variant.specs.declared.scalar.Scalar.{Scalar}
 use Rattle.oa_variant.specs.declared.scalar.Scalar.TheVariants as scalars
-use Rattle.oa_wire_text.specs.Texts.{pointee}
-use Rattle.oa_wire_array.specs.Scalars.{arm}
+use Rattle.oa_wire_text.specs.promise.Texts.{pointee}
+use Rattle.oa_wire_array.specs.promise.Scalars.{arm}
 use Rattle.oa_wire_array.specs.Reading.{arm_at}
-use Rattle.oa_wire_array.specs.Arrays.{bound, cell_pointee, pointed, elements, IsUnlocked, dimensions, header, array}
+use Rattle.oa_wire_array.specs.promise.Arrays.{bound, cell_pointee, pointed, elements, IsUnlockedArray, dimensions}
+use Rattle.oa_wire_array.specs.promise.Arrays.{header, array}
 use Rattle.oa_wire_array.specs.ArrayReading.{bound_at, text_cell_at, variant_cell_at, pointee_at, pointed_at, elements_at, is_number}
-use Rattle.oa_wire_array.specs.ArrayReading.{has_sf_type, is_count, array_of, cells_at, data_at, header_at, array_at}
+use Rattle.oa_wire_array.specs.ArrayReading.{has_sf_type, is_count, array_with, cells_at, data_at, header_at, array_at}
 use Rattle.oa_wire_text.proofs.TextLaws.{pointee_reads}
 use Rattle.oa_wire_array.proofs.ScalarLaws.{signed_reads, arm_reads, scalar_reads}
 
@@ -41,11 +42,26 @@ bound_reads = bind_reads (unit 4) (λ (b : Bound). b.count) (unit_reads 4) (λ _
     made_reads (bound_of count) (signed_reads 4 w32) (λ lower _. (tt, refl)) (λ b p text h form. (b.lower, tt, bound_is b count h.1)))
 
 -- a fact of the value that the bytes before it say, and which the reading of the rest needs
-pub given_part : {C : Type 0} {P : C → Type 0} (Q : C → Type 0) {F : C → ℕ → List ℕ → Type 0} {read : Reading C} → Reads (λ c. P c × Q c) F read → Reads P (λ c. given (Q c) ▸ F c) read
+pub given_part : {C : Type 0} {P : C → Type 0} (Q : C → Type 0) {F : C → ℕ → List ℕ → Type 0} {read : Decoder C} → Reads (λ c. P c × Q c) F read
+    → Reads P (λ c. given (Q c) ▸ F c) read
 given_part {C} {P} Q {F} {read} r = record {
   takes = λ p bytes c t e.
-      let one = r.takes p bytes c t e in
-      (one.0.0, record { text = one.1.text; parts = one.1.parts; place = one.1.place; form = record { front = []; back = one.1.text; parts = refl; first = record { fact = one.0.1; none = refl }; second = subst (λ (q : ℕ). F c q one.1.text) (omega arith) one.1.form } });
+      let one = r.takes p bytes c t e in (
+        one.0.0,
+        record {
+          text = one.1.text;
+          parts = one.1.parts;
+          place = one.1.place;
+          form = record {
+            front = [];
+            back = one.1.text;
+            parts = refl;
+            first = record { fact = one.0.1; none = refl };
+            second = subst
+                (λ (q : ℕ). F c q one.1.text) (omega arith) one.1.form;
+          };
+        },
+      );
   again = λ p text rest c h form.
       let same : text ≡ form.back = form.parts ∙ ap (λ (y : List ℕ). y ++ form.back) form.first.none in
       let place : p + length form.front ≡ p = omega (arith, ap length form.first.none) in
@@ -58,7 +74,8 @@ abbrev pub Fits : VarType → Scalar → Type 0
 Fits t v = FitsType v t
 
 -- Facts about the values that the form implies.
-known : {C : Type 0} {P : C → Type 0} {F : C → ℕ → List ℕ → Type 0} {read : Reading C} → Reads Always F read → ((c : C) (p : ℕ) (text : List ℕ) → F c p text → P c) → Reads P F read
+known : {C : Type 0} {P : C → Type 0} {F : C → ℕ → List ℕ → Type 0} {read : Decoder C} → Reads Always F read
+    → ((c : C) (p : ℕ) (text : List ℕ) → F c p text → P c) → Reads P F read
 known r says = record {
   takes = λ p bytes c t e. let one = (r.takes p bytes c t e).1 in (says c p one.text one.form, one);
   again = λ p text rest c h form. r.again p text rest c tt form;
@@ -71,7 +88,8 @@ pointee_cell_reads : (t : VarType) (is_set : Bool) → Reads (Fits t) (cell_poin
 unfolding pointee_at text_cell_at variant_cell_at
 pointee_cell_reads types.Bstr is_set = known (made_from scalars.Bstr (pointee_reads is_set) (λ t. tt)) (text_fits is_set)
 pointee_cell_reads types.Variant true = known (choose_reads true (λ _. scalar_reads) (λ e. absurd cc)) (λ v p text form. inl refl)
-pointee_cell_reads types.Variant false = known (choose_reads false (λ e. absurd cc) (λ _. give_reads scalars.Empty tt refl (λ v _ e. e))) (λ v p text form. inl refl)
+pointee_cell_reads types.Variant false = known (choose_reads false (λ e. absurd cc) (λ _. give_reads scalars.Empty tt refl (λ v _ e. e)))
+    (λ v p text form. inl refl)
 pointee_cell_reads t is_set = fail_reads (λ v p text h form. form.fact)
 
 -- A number of elements, each of the type.
@@ -109,7 +127,8 @@ elements_reads t n = plain_reads t (λ e. absurd cc) n
 pub counted : (t : VarType) (bounds : List Bound) (n : ℕ) → is_count t bounds n ≡ true → IsArrayShape t bounds × (box_size bounds ≡ n)
 unfolding is_count
 counted t bounds n e =
-    let a4 = and_parts (is_some (sf_type_of t) && ltb 0 (length bounds) && leb (length bounds) max_dimensions && leb (box_size bounds) max_cells) (eqb (box_size bounds) n) e in
+    let a4 = and_parts (is_some (sf_type_of t) && ltb 0 (length bounds) && leb (length bounds) max_dimensions && leb (box_size bounds) max_cells)
+    (eqb (box_size bounds) n) e in
     let a3 = and_parts (is_some (sf_type_of t) && ltb 0 (length bounds) && leb (length bounds) max_dimensions) (leb (box_size bounds) max_cells) a4.0 in
     let a2 = and_parts (is_some (sf_type_of t) && ltb 0 (length bounds)) (leb (length bounds) max_dimensions) a3.0 in
     let a1 = and_parts (is_some (sf_type_of t)) (ltb 0 (length bounds)) a2.0 in
@@ -127,33 +146,36 @@ by_recursion P [] h = tt
 by_recursion P (v ∷ cells) h = (All-head P v cells h, by_recursion P cells (All-tail P v cells h))
 
 -- cells that were read make an array
-pub is_array : (t : VarType) (bounds : List Bound) (cells : List Scalar) (n : ℕ) → is_count t bounds n ≡ true → AreCells t n cells → IsUnlocked (array_of t bounds cells)
+pub is_array : (t : VarType) (bounds : List Bound) (cells : List Scalar) (n : ℕ) → is_count t bounds n ≡ true → AreCells t n cells
+    → IsUnlockedArray (array_with t bounds cells)
 is_array t bounds cells n e are =
     let c = counted t bounds n e in
     (record { shape = c.0; whole = are.0 ∙ sym c.1; typed = All-from_recursion (Fits t) cells are.1 }, refl)
 
 -- The facts about an array that are known before its data are read.
 abbrev IsSized : VarType → ℕ → ℕ → ArrayValue Scalar → Type 0
-IsSized t dims size a = ((IsUnlocked a × (a.elem ≡ t)) × (length a.bounds ≡ dims)) × (length a.cells ≡ size)
+IsSized t dims size a = ((IsUnlockedArray a × (a.elem ≡ t)) × (length a.bounds ≡ dims)) × (length a.cells ≡ size)
 
-array_is : (a : ArrayValue Scalar) (t : VarType) (bounds : List Bound) → a.elem ≡ t → a.bounds ≡ bounds → a.locks ≡ 0 → array_of t bounds a.cells ≡ a
+array_is : (a : ArrayValue Scalar) (t : VarType) (bounds : List Bound) → a.elem ≡ t → a.bounds ≡ bounds → a.locks ≡ 0 → array_with t bounds a.cells ≡ a
 array_is a t bounds e f h = rw (← e, ← f, ← h) refl
 
 -- the cells of an array are of its type
-are_cells : (a : ArrayValue Scalar) (t : VarType) (n : ℕ) → a.elem ≡ t → length a.cells ≡ n → IsUnlocked a → AreCells t n a.cells
+are_cells : (a : ArrayValue Scalar) (t : VarType) (n : ℕ) → a.elem ≡ t → length a.cells ≡ n → IsUnlockedArray a → AreCells t n a.cells
 are_cells a t n e len plain = (len, subst (λ (j : VarType). AllByRecursion (Fits j) a.cells) e (by_recursion (Fits a.elem) a.cells plain.0.typed))
 
 -- the test that an array passes
-is_counted : (a : ArrayValue Scalar) (t : VarType) (bounds : List Bound) (n : ℕ) → a.elem ≡ t → a.bounds ≡ bounds → length a.cells ≡ n → IsUnlocked a → is_count t bounds n ≡ true
+is_counted : (a : ArrayValue Scalar) (t : VarType) (bounds : List Bound) (n : ℕ) → a.elem ≡ t → a.bounds ≡ bounds → length a.cells ≡ n → IsUnlockedArray a
+    → is_count t bounds n ≡ true
 is_counted a t bounds n e f g plain =
     let here : is_count a.elem a.bounds (length a.cells) ≡ true = counts a.elem a.bounds (length a.cells) plain.0.shape ∙ eq-eqb _ _ (sym plain.0.whole) in
     rw (← e, ← f, ← g) here
 
 cells_reads : (t : VarType) (bounds : List Bound) (dims size maximum : ℕ) → length bounds ≡ dims → maximum ≡ size → is_count t bounds size ≡ true
-    → Reads (λ (a : ArrayValue Scalar). (IsSized t dims size a × (a.bounds ≡ bounds)) × (length a.cells ≡ maximum)) (λ a. elements a.elem a.cells) (cells_at t bounds size)
+    → Reads (λ (a : ArrayValue Scalar). (IsSized t dims size a × (a.bounds ≡ bounds)) × (length a.cells ≡ maximum)) (λ a. elements a.elem a.cells)
+    (cells_at t bounds size)
 unfolding cells_at
 cells_reads t bounds dims size maximum is_dims whole_size counted =
-    made_reads (array_of t bounds) (elements_reads t size)
+    made_reads (array_with t bounds) (elements_reads t size)
     (λ cells are. (((((is_array t bounds cells size counted are, refl), is_dims), are.0), refl), are.0 ∙ sym whole_size))
     (λ a p text h form. (a.cells, are_cells a t size h.0.0.0.0.1 h.0.0.1 h.0.0.0.0.0, array_is a t bounds h.0.0.0.0.1 h.0.1 h.0.0.0.0.0.1))
 
@@ -178,7 +200,7 @@ some_number (Some m) n e = ap Some (eqb-true m n e)
 is_that_number : (o : Option ℕ) (n : ℕ) → o ≡ Some n → is_number o n ≡ true
 is_that_number o n e = ap (λ (x : Option ℕ). is_number x n) e ∙ eq-eqb n n refl
 
-header_reads : (t : VarType) → Reads (λ a. IsUnlocked a × (a.elem ≡ t)) header (header_at t)
+header_reads : (t : VarType) → Reads (λ a. IsUnlockedArray a × (a.elem ≡ t)) header (header_at t)
 unfolding header_at
 header_reads t =
     bind_reads (unit 4) (λ (a : ArrayValue Scalar). length a.bounds) (unit_reads 4) (λ _ _. tt) (λ maximum _.
@@ -203,7 +225,7 @@ header_reads t =
 pub array_reads : (t : VarType) → Reads (λ a. a.elem ≡ t) array (array_at t)
 unfolding array_at
 array_reads t =
-    given_part IsUnlocked
+    given_part IsUnlockedArray
     (same_values (bind_reads referent (λ _. true) referent_reads (λ _ _. tt) (λ is_set _.
     choose_reads is_set
     (λ set. same_values (header_reads t) (λ a h. (h, sym set)) (λ a h. h.0))

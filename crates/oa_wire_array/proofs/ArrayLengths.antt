@@ -1,6 +1,6 @@
 -- How many bytes are written.
-use Rattle.std.proofs.Common.{◌≡◌, ℕ, ◌+◌, ◌-◌, ◌*◌, ◌%◌, ◌<◌, ◌≤◌, ◌⊎◌, inl, inr, Bool, true, false, cond, eqb, List, [], ◌∷◌, ◌++◌}
-use Rattle.std.proofs.Common.{length, drop, get_or, replicate, Option, Some, None, All, is_some, refl, sym, ap, subst, ◌∙◌, arith}
+use Rattle.std.proofs.Common.{◌≡◌, ℕ, ◌+◌, ◌-◌, ◌*◌, ◌%◌, ◌<◌, ◌≤◌, inl, inr, Bool, true, false, cond, eqb, List, [], ◌∷◌, ◌++◌}
+use Rattle.std.proofs.Common.{ℤ, length, drop, get_or, replicate, Option, Some, None, All, is_some, refl, sym, ap, subst, ◌∙◌, arith}
 use Rattle.std.specs.List.{AllByRecursion}
 use Rattle.std.specs.Option.{unwrap_or}
 use Rattle.std.specs.Int.{w32, cast_unsigned}
@@ -8,31 +8,41 @@ use Rattle.std.proofs.lemmas.Bool.{eqb-true, true≢false}
 use Rattle.std.proofs.lemmas.List.{length-append, length-replicate, drop_more, drop_all}
 use Rattle.byteorder.specs.Endian.{little_bytes}
 use Rattle.byteorder.specs.Numbers.{length-bytes_low_first}
-use Rattle.oa_ndr.specs.Forms.{padding}
-use Rattle.oa_ndr.specs.Writing.{put_align, put_unit, put_bytes, put_referent, put_all}
-use Rattle.oa_model.specs.Types.{vt_of, sf_type_of, element_size_of}
+use Rattle.oa_ndr.specs.promise.Forms.{padding}
+use Rattle.oa_ndr.specs.promise.Writing.{put_align, put_unit, put_bytes, put_referent, put_all}
+use Rattle.oa_model.specs.promise.Types.{vt_of, is_signed_type, sf_type_of, element_size_of}
 use Rattle.oa_model.specs.declared.bound.Bound.{Bound}
 use Rattle.oa_model.specs.declared.var_type.VarType.{VarType}
 use Rattle.oa_model.specs.declared.var_type.VarType.TheVariants as types
-use Rattle.oa_array.specs.Arrays.{ArrayValue}
-use Rattle.oa_variant.specs.Decimals.{DecimalValue}
-use Rattle.oa_variant.specs.Scalars.{type_of, FitsType}
+use Rattle.oa_array.specs.promise.Arrays.{ArrayValue}
+use Rattle.oa_variant.specs.promise.Decimals.{DecimalValue}
+use Rattle.oa_variant.specs.promise.Keys.{key_number}
+use Rattle.oa_variant.specs.promise.Scalars.{type_of, FitsType}
 use Rattle.oa_variant.specs.declared.scalar.Scalar.{Scalar}
 use Rattle.oa_variant.specs.declared.scalar.Scalar.TheVariants as scalars
-use Rattle.oa_wire_text.specs.Texts.{units}
-use Rattle.oa_wire_array.specs.Scalars.{scalar_vt, sign_of}
-use Rattle.oa_wire_text.specs.Canon.{put_blob, put_bstr}
-use Rattle.oa_wire_array.specs.Canon.{put_decimal, put_arm, put_sized, put_scalar, scalar_len, cl_size}
-use Rattle.oa_wire_array.specs.ArrayCanon.{put_bound, has_pointee, put_pointee, put_cell_referent, put_pointed, is_pointed, put_elements}
-use Rattle.oa_wire_array.specs.ArrayCanon.{features_of, put_shape, put_size}
+use Rattle.oa_wire_text.specs.promise.Texts.{units}
+use Rattle.oa_wire_array.specs.promise.Scalars.{scalar_vt, sign_of}
+use Rattle.oa_wire_text.specs.promise.Canon.{put_blob, put_bstr}
+use Rattle.oa_wire_array.specs.promise.Canon.{put_decimal, put_number, put_arm, put_sized, put_scalar, scalar_len}
+use Rattle.oa_wire_array.specs.promise.Canon.{cl_size}
+use Rattle.oa_wire_array.specs.promise.ArrayCanon.{put_bound, has_pointee, put_pointee, put_cell_referent, put_pointed}
+use Rattle.oa_wire_array.specs.promise.ArrayCanon.{put_elements, features_of, put_shape, put_size}
+use Rattle.oa_wire_array.specs.ArrayCanon.{is_pointed}
 use Rattle.oa_wire_array.proofs.ArrayLaws.{Fits, by_recursion}
+use Rattle.oa_wire_array.proofs.Widths.{IsWidth, of_width, one, two, four, eight, width_by, number_bytes}
 
 -- ---- places
 
 unit_len : (n x : ℕ) (out : List ℕ) → length (put_unit n x out) ≡ length out + padding n (length out) + n
 unit_len n x out =
     let zeros : List ℕ = replicate (padding n (length out)) 0 in
-    omega (arith, length-append out (zeros ++ little_bytes n x), length-append zeros (little_bytes n x), length-replicate {A = ℕ} (padding n (length out)) 0, length-bytes_low_first 0 n x)
+    omega (
+      arith,
+      length-append out (zeros ++ little_bytes n x),
+      length-append zeros (little_bytes n x),
+      length-replicate {A = ℕ} (padding n (length out)) 0,
+      length-bytes_low_first 0 n x,
+    )
 
 pub align_len : (n : ℕ) (out : List ℕ) → length (put_align n out) ≡ length out + padding n (length out)
 align_len n out = omega (arith, length-append {A = ℕ} out (replicate (padding n (length out)) 0), length-replicate {A = ℕ} (padding n (length out)) 0)
@@ -43,21 +53,12 @@ no_padding n p h = rw h refl
 unit_on : (n x : ℕ) (out : List ℕ) → length out % n ≡ 0 → length (put_unit n x out) ≡ length out + n
 unit_on n x out h = omega (arith, unit_len n x out, no_padding n (length out) h)
 
-abbrev IsWidth : ℕ → Type 0
-IsWidth w = (w ≡ 1) ⊎ (w ≡ 2) ⊎ (w ≡ 4) ⊎ (w ≡ 8)
-
--- A property of all four widths.
-of_width : (P : ℕ → Type 0) → P 1 → P 2 → P 4 → P 8 → (w : ℕ) → IsWidth w → P w
-of_width P a b c d w (inl e) = subst P (sym e) a
-of_width P a b c d w (inr (inl e)) = subst P (sym e) b
-of_width P a b c d w (inr (inr (inl e))) = subst P (sym e) c
-of_width P a b c d w (inr (inr (inr e))) = subst P (sym e) d
-
 stays : (p w : ℕ) → IsWidth w → p % w ≡ 0 → (p + w) % w ≡ 0
 stays p = of_width (λ w. p % w ≡ 0 → (p + w) % w ≡ 0) (λ h. omega (arith, h)) (λ h. omega (arith, h)) (λ h. omega (arith, h)) (λ h. omega (arith, h))
 
 pub lands : (p w : ℕ) → IsWidth w → (p + padding w p) % w ≡ 0
-lands p = of_width (λ w. (p + padding w p) % w ≡ 0) (at_one 1 (omega arith)) (at_two (eqb (p % 2) 0) refl) (at_four (eqb (p % 4) 0) refl) (at_eight (eqb (p % 8) 0) refl)
+lands p = of_width (λ w. (p + padding w p) % w ≡ 0) (at_one 1 (omega arith)) (at_two (eqb (p % 2) 0) refl) (at_four (eqb (p % 4) 0) refl)
+    (at_eight (eqb (p % 8) 0) refl)
   where
     at_one : (w : ℕ) → (p + padding 1 p) % 1 ≡ 0 → (p + padding 1 p) % 1 ≡ 0
     at_one w h = h
@@ -106,18 +107,6 @@ bytes_alike text = record { adds = λ a b e. omega (arith, length-append a text,
 nothing_alike : Alike (λ out. out) (λ out. out)
 nothing_alike = record { adds = λ a b e. omega arith }
 
-one : IsWidth 1
-one = inl refl
-
-two : IsWidth 2
-two = inr (inl refl)
-
-four : IsWidth 4
-four = inr (inr (inl refl))
-
-pub eight : IsWidth 8
-eight = inr (inr (inr refl))
-
 align_alike : Alike (put_align 8) (put_align 8)
 align_alike = record { adds = λ a b e. omega (arith, align_len 8 a, align_len 8 b, same_padding (length a) (length b) 8 eight e) }
 
@@ -132,27 +121,21 @@ bstr_alike (Some text) = then_alike (unit_alike 4 131072 131072 four) (blob_alik
 
 decimal_alike : (d : DecimalValue) → Alike (put_decimal d) (put_decimal d)
 decimal_alike d =
-    then_alike align_alike (then_alike (unit_alike 2 0 0 two) (then_alike (unit_alike 1 d.scale d.scale one) (then_alike (unit_alike 1 (sign_of d.negative) (sign_of d.negative) one)
+    then_alike align_alike (then_alike (unit_alike 2 0 0 two)
+    (then_alike (unit_alike 1 d.scale d.scale one) (then_alike (unit_alike 1 (sign_of d.negative) (sign_of d.negative) one)
     (then_alike (unit_alike 4 _ _ four) (unit_alike 8 _ _ eight)))))
+
+number_alike : (signed : Bool) (n : ℕ) → IsWidth n → (z : ℤ) → Alike (put_number signed n z) (put_number signed n z)
+number_alike true n is z = unit_alike n _ _ is
+number_alike false n is z = unit_alike n _ _ is
 
 arm_alike : (v : Scalar) → Alike (put_arm v) (put_arm v)
 arm_alike scalars.Empty = nothing_alike
 arm_alike scalars.Null = nothing_alike
-arm_alike (scalars.I1 z) = unit_alike 1 _ _ one
-arm_alike (scalars.I2 z) = unit_alike 2 _ _ two
-arm_alike (scalars.I4 z) = unit_alike 4 _ _ four
-arm_alike (scalars.I8 z) = unit_alike 8 _ _ eight
-arm_alike (scalars.Int z) = unit_alike 4 _ _ four
-arm_alike (scalars.Ui1 z) = unit_alike 1 _ _ one
-arm_alike (scalars.Ui2 z) = unit_alike 2 _ _ two
-arm_alike (scalars.Ui4 z) = unit_alike 4 _ _ four
-arm_alike (scalars.Ui8 z) = unit_alike 8 _ _ eight
-arm_alike (scalars.Uint z) = unit_alike 4 _ _ four
-arm_alike (scalars.Cy z) = unit_alike 8 _ _ eight
-arm_alike (scalars.Bool z) = unit_alike 2 _ _ two
-arm_alike (scalars.Error z) = unit_alike 4 _ _ four
+arm_alike (scalars.Bool b) = unit_alike 2 _ _ two
 arm_alike (scalars.Bstr t) = bstr_alike t
 arm_alike (scalars.Decimal d) = decimal_alike d
+arm_alike v = number_alike (is_signed_type (type_of v)) (number_bytes (type_of v)) (width_by (number_bytes (type_of v)) refl) (key_number v)
 
 -- After the padding up to a multiple of 8.
 abbrev put_rest : ℕ → Scalar → List ℕ → List ℕ
@@ -162,7 +145,8 @@ put_rest size v out =
 rest_alike : (size other : ℕ) (v : Scalar) → Alike (put_rest size v) (put_rest other v)
 rest_alike size other v =
     then_alike (unit_alike 4 size other four) (then_alike (unit_alike 4 0 0 four) (then_alike (unit_alike 2 (scalar_vt v) (scalar_vt v) two)
-    (then_alike (unit_alike 2 0 0 two) (then_alike (unit_alike 2 0 0 two) (then_alike (unit_alike 2 0 0 two) (then_alike (unit_alike 4 (scalar_vt v) (scalar_vt v) four) (arm_alike v)))))))
+    (then_alike (unit_alike 2 0 0 two) (then_alike (unit_alike 2 0 0 two)
+    (then_alike (unit_alike 2 0 0 two) (then_alike (unit_alike 4 (scalar_vt v) (scalar_vt v) four) (arm_alike v)))))))
 
 -- A scalar has the same number of bytes at any offset.
 pub scalar_at_place : (v : Scalar) (out : List ℕ) → length (put_scalar v out) ≡ length out + padding 8 (length out) + scalar_len v
@@ -177,7 +161,8 @@ scalar_at_place v out =
 
 -- ---- cells
 
-pub referents_len : (t : VarType) (cells : List Scalar) (out : List ℕ) → length out % 4 ≡ 0 → length (put_all (put_cell_referent t) cells out) ≡ length out + 4 * length cells
+pub referents_len : (t : VarType) (cells : List Scalar) (out : List ℕ) → length out % 4 ≡ 0 → length (put_all (put_cell_referent t) cells out) ≡ length out + 4
+    * length cells
 referents_len t [] out h = omega arith
 referents_len t (v ∷ cells) out h =
     let first : length (put_cell_referent t v out) ≡ length out + 4 = unit_on 4 (cond (has_pointee t v) 131072 0) out h in
@@ -189,14 +174,16 @@ abbrev pub Runs : VarType → List Scalar → ℕ → ℕ → ℕ → Type 0
 Runs t cells i start now =
     (out : List ℕ) → length out ≡ start → (mid : List ℕ) × (length mid ≡ now) × (put_all (put_pointee t) (drop i cells) mid ≡ put_all (put_pointee t) cells out)
 
-pub runs_on : (t : VarType) (cells : List Scalar) (i start now next : ℕ) (d : Scalar) → i < length cells → ((out : List ℕ) → length out ≡ now → length (put_pointee t (get_or cells i d) out) ≡ next) → Runs t cells i start now → Runs t cells (i + 1) start next
+pub runs_on : (t : VarType) (cells : List Scalar) (i start now next : ℕ) (d : Scalar) → i < length cells
+    → ((out : List ℕ) → length out ≡ now → length (put_pointee t (get_or cells i d) out) ≡ next) → Runs t cells i start now → Runs t cells (i + 1) start next
 runs_on t cells i start now next d lt step so_far out e =
     let m = so_far out e in
     let k : put_all (put_pointee t) (drop i cells) m.0 ≡ put_all (put_pointee t) (drop (i + 1) cells) (put_pointee t (get_or cells i d) m.0) =
     ap (λ (xs : List Scalar). put_all (put_pointee t) xs m.0) (drop_more cells i d lt) in
     (put_pointee t (get_or cells i d) m.0, step m.0 m.1, sym k ∙ m.2)
 
-pub runs_end : (t : VarType) (cells : List Scalar) (i start now : ℕ) → length cells ≤ i → Runs t cells i start now → (out : List ℕ) → length out ≡ start → length (put_all (put_pointee t) cells out) ≡ now
+pub runs_end : (t : VarType) (cells : List Scalar) (i start now : ℕ) → length cells ≤ i → Runs t cells i start now → (out : List ℕ) → length out ≡ start
+    → length (put_all (put_pointee t) cells out) ≡ now
 runs_end t cells i start now le so_far out e =
     let m = so_far out e in
     let k : put_all (put_pointee t) (drop i cells) m.0 ≡ m.0 = ap (λ (xs : List Scalar). put_all (put_pointee t) xs m.0) (drop_all i cells le) in
@@ -210,26 +197,23 @@ some_width w = Some w
 width_is : (w k x : ℕ) (out : List ℕ) → some_width k ≡ Some w → length (put_unit k x out) ≡ length out + padding w (length out) + w
 width_is w k x out e = let same : k ≡ w = cc in subst (λ (n : ℕ). length (put_unit k x out) ≡ length out + padding n (length out) + n) same (unit_len k x out)
 
-plain_arm : (v : Scalar) (w : ℕ) → element_size_of (type_of v) ≡ Some w → is_pointed (type_of v) ≡ false → (out : List ℕ) → length (put_arm v out) ≡ length out + padding w (length out) + w
+number_width : (signed : Bool) (n w : ℕ) (z : ℤ) (out : List ℕ) → some_width n ≡ Some w → length (put_number signed n z out) ≡ length out + padding w
+    (length out) + w
+number_width true n w z out e = width_is w n _ out e
+number_width false n w z out e = width_is w n _ out e
+
+plain_arm : (v : Scalar) (w : ℕ) → element_size_of (type_of v) ≡ Some w → is_pointed (type_of v) ≡ false → (out : List ℕ)
+    → length (put_arm v out) ≡ length out + padding w (length out) + w
 plain_arm scalars.Empty w e h out = absurd cc
 plain_arm scalars.Null w e h out = absurd cc
-plain_arm (scalars.I1 z) w e h out = width_is w 1 _ out e
-plain_arm (scalars.I2 z) w e h out = width_is w 2 _ out e
-plain_arm (scalars.I4 z) w e h out = width_is w 4 _ out e
-plain_arm (scalars.I8 z) w e h out = width_is w 8 _ out e
-plain_arm (scalars.Int z) w e h out = width_is w 4 _ out e
-plain_arm (scalars.Ui1 z) w e h out = width_is w 1 _ out e
-plain_arm (scalars.Ui2 z) w e h out = width_is w 2 _ out e
-plain_arm (scalars.Ui4 z) w e h out = width_is w 4 _ out e
-plain_arm (scalars.Ui8 z) w e h out = width_is w 8 _ out e
-plain_arm (scalars.Uint z) w e h out = width_is w 4 _ out e
-plain_arm (scalars.Cy z) w e h out = width_is w 8 _ out e
-plain_arm (scalars.Bool z) w e h out = width_is w 2 _ out e
-plain_arm (scalars.Error z) w e h out = absurd cc
+plain_arm (scalars.Bool b) w e h out = width_is w 2 _ out e
+plain_arm (scalars.Error n) w e h out = absurd cc
 plain_arm (scalars.Bstr t) w e h out = absurd cc
 plain_arm (scalars.Decimal d) w e h out = absurd cc
+plain_arm v w e h out = number_width (is_signed_type (type_of v)) (number_bytes (type_of v)) w (key_number v) out e
 
-row : (t : VarType) (w : ℕ) → IsWidth w → element_size_of t ≡ Some w → is_pointed t ≡ false → (cells : List Scalar) → AllByRecursion (λ v. type_of v ≡ t) cells → (out : List ℕ) → length out % w ≡ 0
+row : (t : VarType) (w : ℕ) → IsWidth w → element_size_of t ≡ Some w → is_pointed t ≡ false → (cells : List Scalar) → AllByRecursion (λ v. type_of v ≡ t) cells
+    → (out : List ℕ) → length out % w ≡ 0
     → length (put_all put_arm cells out) ≡ length out + w * length cells
 row t w is e h [] all out even = of_width (λ k. length out ≡ length out + k * 0) (omega arith) (omega arith) (omega arith) (omega arith) w is
 row t w is e h (v ∷ cells) all out even =
@@ -239,7 +223,8 @@ row t w is e h (v ∷ cells) all out even =
     omega (arith, place, others, more_cells (length cells) w is)
 
 -- The end of elements without pointees, if there are some.
-pub row_from : (t : VarType) (w : ℕ) → IsWidth w → element_size_of t ≡ Some w → is_pointed t ≡ false → (cells : List Scalar) → AllByRecursion (λ v. type_of v ≡ t) cells → 0 < length cells → (out : List ℕ)
+pub row_from : (t : VarType) (w : ℕ) → IsWidth w → element_size_of t ≡ Some w → is_pointed t ≡ false → (cells : List Scalar)
+    → AllByRecursion (λ v. type_of v ≡ t) cells → 0 < length cells → (out : List ℕ)
     → length (put_all put_arm cells out) ≡ length out + padding w (length out) + w * length cells
 row_from t w is e h [] all some out = absurd (omega (arith, some))
 row_from t w is e h (v ∷ cells) all some out =
@@ -249,25 +234,15 @@ row_from t w is e h (v ∷ cells) all some out =
     omega (arith, first, others, more_cells (length cells) w is)
 
 -- the widths that there are
-pub size_is : (t : VarType) → is_some (sf_type_of t) ≡ true → is_pointed t ≡ false → (element_size_of t ≡ Some (unwrap_or (element_size_of t) 0)) × IsWidth (unwrap_or (element_size_of t) 0)
-size_is types.I1 h p = (refl, one)
-size_is types.Ui1 h p = (refl, one)
-size_is types.I2 h p = (refl, two)
-size_is types.Ui2 h p = (refl, two)
-size_is types.Bool h p = (refl, two)
-size_is types.I4 h p = (refl, four)
-size_is types.Ui4 h p = (refl, four)
-size_is types.Int h p = (refl, four)
-size_is types.Uint h p = (refl, four)
-size_is types.I8 h p = (refl, eight)
-size_is types.Ui8 h p = (refl, eight)
-size_is types.Cy h p = (refl, eight)
+pub size_is : (t : VarType) → is_some (sf_type_of t) ≡ true → is_pointed t ≡ false → (element_size_of t ≡ Some (unwrap_or (element_size_of t) 0))
+    × IsWidth (unwrap_or (element_size_of t) 0)
 size_is types.Bstr h p = absurd cc
 size_is types.Variant h p = absurd cc
 size_is types.Empty h p = absurd cc
 size_is types.Null h p = absurd cc
 size_is types.Error h p = absurd cc
 size_is types.Decimal h p = absurd cc
+size_is t h p = (refl, width_by (number_bytes t) refl)
 
 pub width_bounds : (w : ℕ) → IsWidth w → (0 < w) × (w ≤ 8)
 width_bounds = of_width (λ w. (0 < w) × (w ≤ 8)) (omega arith, omega arith) (omega arith, omega arith) (omega arith, omega arith) (omega arith, omega arith)

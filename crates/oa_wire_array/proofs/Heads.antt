@@ -5,14 +5,17 @@ use Rattle.std.proofs.Common.{OnOk, refl, sym, ap, ◌∙◌, arith}
 use Rattle.std.proofs.lemmas.List.{take_at, drop_at, drop-drop, length-append}
 use Rattle.byteorder.specs.Endian.{little_bytes, little_number, little_from}
 use Rattle.byteorder.specs.Numbers.{little_from-take}
-use Rattle.oa_ndr.specs.Forms.{padding}
-use Rattle.oa_ndr.specs.Writing.{FieldOutput, in_field, put_align, put_bytes, put_unit}
-use Rattle.oa_ndr.specs.Reading.{Cursor, align_at, unit_at}
+use Rattle.oa_ndr.specs.promise.Forms.{padding}
+use Rattle.oa_ndr.specs.Writing.{FieldOutput, in_field}
+use Rattle.oa_ndr.specs.promise.Writing.{put_align, put_bytes, put_unit}
+use Rattle.oa_ndr.specs.promise.Reading.{Cursor}
+use Rattle.oa_ndr.specs.Reading.{align_at, unit_at}
 use Rattle.oa_ndr.proofs.Laws.{unit_reads, align_reads}
-use Rattle.oa_wire_array.specs.Scalars.{own_vt}
-use Rattle.oa_wire_array.specs.Canon.{put_head}
+use Rattle.oa_wire_array.specs.promise.Scalars.{own_vt}
+use Rattle.oa_wire_array.specs.promise.Canon.{put_head}
 use Rattle.oa_wire_text.specs.Reading.{from_multiple}
-use Rattle.oa_wire_array.proofs.ArrayLengths.{align_len, lands, no_padding, eight}
+use Rattle.oa_wire_array.proofs.ArrayLengths.{align_len, lands, no_padding}
+use Rattle.oa_wire_array.proofs.Widths.{eight}
 
 -- The cursor is k bytes after another one.
 abbrev Behind : Cursor → ℕ → Cursor → Type 0
@@ -21,7 +24,8 @@ Behind base k s = (s.position ≡ base.position + k) × (k + length s.rest ≡ l
 first_bytes : (n : ℕ) (text rest : List ℕ) → length text ≡ n → little_number n (text ++ rest) ≡ little_number n text
 first_bytes n text rest len = sym (little_from-take 0 n n (text ++ rest) (omega arith)) ∙ ap (little_from 0 n) (take_at text rest n len)
 
-unit_behind : (n k : ℕ) (base s t : Cursor) (x : ℕ) → Behind base k s → padding n (base.position + k) ≡ 0 → unit_at n s ≡ Some (x, t) → (x ≡ little_number n (drop k base.rest)) × Behind base (k + n) t
+unit_behind : (n k : ℕ) (base s t : Cursor) (x : ℕ) → Behind base k s → padding n (base.position + k) ≡ 0 → unit_at n s ≡ Some (x, t)
+    → (x ≡ little_number n (drop k base.rest)) × Behind base (k + n) t
 unit_behind n k base s t x here none e =
     let one = ((unit_reads n).takes s.position s.rest x t e).1 in
     let pad : padding n s.position ≡ 0 = ap (padding n) here.0 ∙ none in
@@ -32,7 +36,8 @@ unit_behind n k base s t x here none e =
     (sym at_k, (omega (arith, one.place, here.0, len), omega (arith, ap length one.parts, length-append one.text t.rest, here.1, len), rest))
 
 pub head_lies : (r s0 s1 s2 s3 s4 s5 s6 : Cursor) (u : Unit {0}) (a b vt c d e : ℕ)
-    → align_at 8 r ≡ Some (u, s0) → unit_at 4 s0 ≡ Some (a, s1) → unit_at 4 s1 ≡ Some (b, s2) → unit_at 2 s2 ≡ Some (vt, s3) → unit_at 2 s3 ≡ Some (c, s4) → unit_at 2 s4 ≡ Some (d, s5) → unit_at 2 s5 ≡ Some (e, s6)
+    → align_at 8 r ≡ Some (u, s0) → unit_at 4 s0 ≡ Some (a, s1) → unit_at 4 s1 ≡ Some (b, s2) → unit_at 2 s2 ≡ Some (vt, s3) → unit_at 2 s3 ≡ Some (c, s4)
+    → unit_at 2 s4 ≡ Some (d, s5) → unit_at 2 s5 ≡ Some (e, s6)
     → (vt ≡ own_vt (from_multiple 8 r)) × (16 + length s6.rest ≡ length (from_multiple 8 r))
 head_lies r s0 s1 s2 s3 s4 s5 s6 u a b vt c d e h0 h1 h2 h3 h4 h5 h6 =
     let zero = ((align_reads 8).takes r.position r.rest u s0 h0).1 in
@@ -72,6 +77,7 @@ head_adds size vt out =
     let six = ap (put_unit 2 0) five ∙ unit_adds 2 0 (((((start ++ a) ++ b) ++ c) ++ d) ++ d) (omega (arith, even, at_e)) in
     six ∙ simp append_assoc refl
 
-pub head_then : {X E : Type 0} (r : Result X E) (old aligned new : FieldOutput) (size vt : ℕ) (bytes : List ℕ) → bytes ≡ put_head size vt [] → aligned ≡ in_field (put_align 8) old → OnOk r (new ≡ in_field (put_bytes bytes) aligned) → OnOk r (new ≡ in_field (put_head size vt) old)
+pub head_then : {X E : Type 0} (r : Result X E) (old aligned new : FieldOutput) (size vt : ℕ) (bytes : List ℕ) → bytes ≡ put_head size vt []
+    → aligned ≡ in_field (put_align 8) old → OnOk r (new ≡ in_field (put_bytes bytes) aligned) → OnOk r (new ≡ in_field (put_head size vt) old)
 head_then (Ok x) old aligned new size vt bytes is first more = rw (more, first, is, head_adds size vt old.field) refl
 head_then (Err e) old aligned new size vt bytes is first more = tt

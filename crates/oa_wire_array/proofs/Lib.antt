@@ -6,3 +6,4 @@ mod Loops
 pub mod Written
 pub mod ArrayWritten
 mod ArrayLengths
+mod Widths

@@ -2,21 +2,25 @@
 use Rattle.std.proofs.Common.{◌≡◌, ℕ, ◌+◌, ◌*◌, ◌^◌, Bool, true, false, not, eqb, leb, cond, List, ◌++◌, length, Option, Some, None, refl}
 use Rattle.std.proofs.Common.{sym, ap, subst, ◌∙◌, arith}
 use Rattle.std.proofs.lemmas.Bool.{eqb-true, eqb-false, leb-true, leb-false}
-use Rattle.std.specs.Int.{Width, w8, w16, w32, w64, cast_signed}
-use Rattle.oa_ndr.specs.Forms.{unit}
-use Rattle.oa_ndr.specs.Reading.{Cursor, at}
+use Rattle.std.specs.Prelude.{ℤ, pos, unsigned_abs}
+use Rattle.std.specs.Int.{Width, cast_signed}
+use Rattle.oa_ndr.specs.promise.Forms.{unit}
+use Rattle.oa_ndr.specs.promise.Reading.{Cursor, at}
 use Rattle.oa_ndr.proofs.Laws.{Takes, Reads, Always, give_reads, fail_reads, choose_reads, unit_reads, bind_reads, with_reads, ignored_then}
-use Rattle.oa_ndr.proofs.Laws.{align_then, same_values, made_takes, made_again, nothing_takes, nothing_again}
-use Rattle.oa_model.specs.Types.{vt_of, type_at}
+use Rattle.oa_ndr.proofs.Laws.{align_then, same_values, made_reads, made_takes, made_again, nothing_takes, nothing_again}
+use Rattle.oa_model.specs.promise.Types.{vt_of, type_at, is_signed_type}
 use Rattle.oa_model.specs.declared.var_type.VarType.{VarType}
 use Rattle.oa_model.specs.declared.var_type.VarType.TheVariants as types
-use Rattle.oa_variant.specs.Decimals.{DecimalValue}
-use Rattle.oa_variant.specs.Scalars.{type_of}
+use Rattle.oa_variant.specs.promise.Decimals.{DecimalValue, zero_decimal}
+use Rattle.oa_variant.specs.promise.Keys.{key_number, scalar_of}
+use Rattle.oa_variant.specs.promise.Scalars.{type_of}
 use Rattle.oa_variant.specs.declared.scalar.Scalar.{Scalar}
 use Rattle.oa_variant.specs.declared.scalar.Scalar.TheVariants as scalars
-use Rattle.oa_wire_array.specs.Scalars.{signed_unit, truth, sign_of, sign, decimal, arm, scalar_vt, union, scalar}
-use Rattle.oa_wire_array.specs.Reading.{signed_at, truth_at, sign_at, the_decimal, decimal_at, arm_at, arm_of, union_at, scalar_at}
+use Rattle.oa_wire_array.specs.promise.Scalars.{signed_unit, truth, sign_of, sign, decimal, width_of, integer, arm}
+use Rattle.oa_wire_array.specs.promise.Scalars.{scalar_vt, union, scalar}
+use Rattle.oa_wire_array.specs.Reading.{signed_at, truth_at, sign_at, the_decimal, decimal_at, integer_at, arm_at, arm_of, union_at, scalar_at}
 use Rattle.oa_wire_text.proofs.TextLaws.{bstr_reads}
+use Rattle.oa_wire_array.proofs.Widths.{number_bytes}
 
 pub signed_reads : (n : ℕ) (w : Width) → Reads Always (signed_unit n w) (signed_at n w)
 unfolding signed_at
@@ -47,7 +51,8 @@ sign_reads = with_reads (unit_reads 1) (λ c a p text _ _. tt) (λ x _.
     (λ set. give_reads true tt (eqb-true x 128 set) (λ b _ e. sign_true b (sym e ∙ eqb-true x 128 set)))
     (λ not_set. fail_reads (λ b p text _ form. no_sign b x not_zero not_set form.fact))))
 
-decimal_is : (d : DecimalValue) (negative : Bool) (scale high low : ℕ) → d.negative ≡ negative → d.scale ≡ scale → d.magnitude ≡ high * 2 ^ 64 + low → d ≡ the_decimal negative scale high low
+decimal_is : (d : DecimalValue) (negative : Bool) (scale high low : ℕ) → d.negative ≡ negative → d.scale ≡ scale → d.magnitude ≡ high * 2 ^ 64 + low
+    → d ≡ the_decimal negative scale high low
 decimal_is d negative scale high low a b c = rw (← a, ← b, ← c) refl
 
 decimal_reads : Reads Always decimal decimal_at
@@ -63,91 +68,52 @@ decimal_reads =
 
 -- ---- the arms
 
+-- A number that a form can have: one that is unsigned is not negative.
+abbrev IsNumber : Bool → ℤ → Type 0
+IsNumber true z = z ≡ z
+IsNumber false z = z ≡ pos (unsigned_abs z)
+
+number_reads : (signed : Bool) (n : ℕ) → Reads (IsNumber signed) (integer signed n) (integer_at signed n)
+unfolding integer_at
+number_reads true n = same_values (signed_reads n (width_of n)) (λ z _. refl) (λ z _. tt)
+number_reads false n = made_reads pos (unit_reads n) (λ x _. refl) (λ z p text h _. (unsigned_abs z, tt, sym h))
+
 no_variant : (v : Scalar) → type_of v ≡ types.Variant → ⊥
 no_variant scalars.Empty e = absurd cc
-no_variant scalars.Null e = absurd cc
-no_variant (scalars.I1 x) e = absurd cc
-no_variant (scalars.I2 x) e = absurd cc
-no_variant (scalars.I4 x) e = absurd cc
-no_variant (scalars.I8 x) e = absurd cc
-no_variant (scalars.Int x) e = absurd cc
-no_variant (scalars.Ui1 x) e = absurd cc
-no_variant (scalars.Ui2 x) e = absurd cc
-no_variant (scalars.Ui4 x) e = absurd cc
-no_variant (scalars.Ui8 x) e = absurd cc
-no_variant (scalars.Uint x) e = absurd cc
-no_variant (scalars.Cy x) e = absurd cc
-no_variant (scalars.Bool x) e = absurd cc
-no_variant (scalars.Error x) e = absurd cc
-no_variant (scalars.Bstr x) e = absurd cc
-no_variant (scalars.Decimal x) e = absurd cc
+no_variant v e = absurd cc
 
-arm_takes : (t : VarType) (p : ℕ) (bytes : List ℕ) (v : Scalar) (end : Cursor) → arm_at t (at p bytes) ≡ Some (v, end) → (type_of v ≡ t) × Takes (arm v) p bytes end
+arm_takes : (t : VarType) (p : ℕ) (bytes : List ℕ) (v : Scalar) (end : Cursor) → arm_at t (at p bytes) ≡ Some (v, end) → (type_of v ≡ t)
+    × Takes (arm v) p bytes end
 unfolding arm_at
 arm_takes types.Empty = nothing_takes (λ v. type_of v ≡ types.Empty) arm scalars.Empty refl (λ p. refl)
 arm_takes types.Null = nothing_takes (λ v. type_of v ≡ types.Null) arm scalars.Null refl (λ p. refl)
-arm_takes types.I1 = made_takes (λ v. type_of v ≡ types.I1) arm scalars.I1 (signed_reads 1 w8) (λ _ _. refl)
-arm_takes types.I2 = made_takes (λ v. type_of v ≡ types.I2) arm scalars.I2 (signed_reads 2 w16) (λ _ _. refl)
-arm_takes types.I4 = made_takes (λ v. type_of v ≡ types.I4) arm scalars.I4 (signed_reads 4 w32) (λ _ _. refl)
-arm_takes types.I8 = made_takes (λ v. type_of v ≡ types.I8) arm scalars.I8 (signed_reads 8 w64) (λ _ _. refl)
-arm_takes types.Int = made_takes (λ v. type_of v ≡ types.Int) arm scalars.Int (signed_reads 4 w32) (λ _ _. refl)
-arm_takes types.Ui1 = made_takes (λ v. type_of v ≡ types.Ui1) arm scalars.Ui1 (unit_reads 1) (λ _ _. refl)
-arm_takes types.Ui2 = made_takes (λ v. type_of v ≡ types.Ui2) arm scalars.Ui2 (unit_reads 2) (λ _ _. refl)
-arm_takes types.Ui4 = made_takes (λ v. type_of v ≡ types.Ui4) arm scalars.Ui4 (unit_reads 4) (λ _ _. refl)
-arm_takes types.Ui8 = made_takes (λ v. type_of v ≡ types.Ui8) arm scalars.Ui8 (unit_reads 8) (λ _ _. refl)
-arm_takes types.Uint = made_takes (λ v. type_of v ≡ types.Uint) arm scalars.Uint (unit_reads 4) (λ _ _. refl)
-arm_takes types.Cy = made_takes (λ v. type_of v ≡ types.Cy) arm scalars.Cy (signed_reads 8 w64) (λ _ _. refl)
 arm_takes types.Bool = made_takes (λ v. type_of v ≡ types.Bool) arm scalars.Bool truth_reads (λ _ _. refl)
-arm_takes types.Error = made_takes (λ v. type_of v ≡ types.Error) arm scalars.Error (unit_reads 4) (λ _ _. refl)
 arm_takes types.Bstr = made_takes (λ v. type_of v ≡ types.Bstr) arm scalars.Bstr bstr_reads (λ _ _. refl)
 arm_takes types.Decimal = made_takes (λ v. type_of v ≡ types.Decimal) arm scalars.Decimal decimal_reads (λ _ _. refl)
 arm_takes types.Variant = (fail_reads {P = λ v. type_of v ≡ types.Variant} {F = arm} (λ v p text h _. no_variant v h)).takes
+arm_takes t = made_takes (λ v. type_of v ≡ t) arm (λ z. scalar_of t z None zero_decimal) (number_reads (is_signed_type t) (number_bytes t)) (λ _ _. refl)
 
 arm_again : (p : ℕ) (text rest : List ℕ) (v : Scalar) → arm v p text → arm_at (type_of v) (at p (text ++ rest)) ≡ Some (v, at (p + length text) rest)
 unfolding arm_at
 arm_again p text rest scalars.Empty form = nothing_again scalars.Empty p text rest form
 arm_again p text rest scalars.Null form = nothing_again scalars.Null p text rest form
-arm_again p text rest (scalars.I1 x) form = made_again arm scalars.I1 (signed_reads 1 w8) p text rest x tt form
-arm_again p text rest (scalars.I2 x) form = made_again arm scalars.I2 (signed_reads 2 w16) p text rest x tt form
-arm_again p text rest (scalars.I4 x) form = made_again arm scalars.I4 (signed_reads 4 w32) p text rest x tt form
-arm_again p text rest (scalars.I8 x) form = made_again arm scalars.I8 (signed_reads 8 w64) p text rest x tt form
-arm_again p text rest (scalars.Int x) form = made_again arm scalars.Int (signed_reads 4 w32) p text rest x tt form
-arm_again p text rest (scalars.Ui1 x) form = made_again arm scalars.Ui1 (unit_reads 1) p text rest x tt form
-arm_again p text rest (scalars.Ui2 x) form = made_again arm scalars.Ui2 (unit_reads 2) p text rest x tt form
-arm_again p text rest (scalars.Ui4 x) form = made_again arm scalars.Ui4 (unit_reads 4) p text rest x tt form
-arm_again p text rest (scalars.Ui8 x) form = made_again arm scalars.Ui8 (unit_reads 8) p text rest x tt form
-arm_again p text rest (scalars.Uint x) form = made_again arm scalars.Uint (unit_reads 4) p text rest x tt form
-arm_again p text rest (scalars.Cy x) form = made_again arm scalars.Cy (signed_reads 8 w64) p text rest x tt form
 arm_again p text rest (scalars.Bool x) form = made_again arm scalars.Bool truth_reads p text rest x tt form
-arm_again p text rest (scalars.Error x) form = made_again arm scalars.Error (unit_reads 4) p text rest x tt form
 arm_again p text rest (scalars.Bstr x) form = made_again arm scalars.Bstr bstr_reads p text rest x tt form
 arm_again p text rest (scalars.Decimal x) form = made_again arm scalars.Decimal decimal_reads p text rest x tt form
+arm_again p text rest v form =
+    made_again arm (λ z. scalar_of (type_of v) z None zero_decimal) (number_reads (is_signed_type (type_of v)) (number_bytes (type_of v))) p text rest
+    (key_number v) refl form
 
 pub arm_reads : (t : VarType) → Reads (λ v. type_of v ≡ t) arm (arm_at t)
 arm_reads t = record {
   takes = arm_takes t;
-  again = λ p text rest v h form. subst (λ (j : VarType). arm_at j (at p (text ++ rest)) ≡ Some (v, at (p + length text) rest)) h (arm_again p text rest v form);
+  again = λ p text rest v h form. subst (λ (j : VarType). arm_at j (at p (text ++ rest)) ≡ Some (v, at (p + length text) rest)) h
+      (arm_again p text rest v form);
 }
 
 pub type_at_vt : (t : VarType) → type_at (vt_of t) ≡ Some t
 type_at_vt types.Empty = refl
-type_at_vt types.Null = refl
-type_at_vt types.I2 = refl
-type_at_vt types.I4 = refl
-type_at_vt types.Cy = refl
-type_at_vt types.Bstr = refl
-type_at_vt types.Error = refl
-type_at_vt types.Bool = refl
-type_at_vt types.Variant = refl
-type_at_vt types.Decimal = refl
-type_at_vt types.I1 = refl
-type_at_vt types.Ui1 = refl
-type_at_vt types.Ui2 = refl
-type_at_vt types.Ui4 = refl
-type_at_vt types.I8 = refl
-type_at_vt types.Ui8 = refl
-type_at_vt types.Int = refl
-type_at_vt types.Uint = refl
+type_at_vt t = refl
 
 abbrev some_type : VarType → Option VarType
 some_type t = Some t
@@ -156,7 +122,8 @@ pub same_type : (t j : VarType) → some_type t ≡ Some j → t ≡ j
 same_type t j e = cc
 
 -- the test of one number
-tried : (vt n : ℕ) (j : VarType) (other : Option VarType) (t : VarType) → vt_of j ≡ n → cond (eqb vt n) (Some j) other ≡ Some t → (other ≡ Some t → vt_of t ≡ vt) → vt_of t ≡ vt
+tried : (vt n : ℕ) (j : VarType) (other : Option VarType) (t : VarType) → vt_of j ≡ n → cond (eqb vt n) (Some j) other ≡ Some t
+    → (other ≡ Some t → vt_of t ≡ vt) → vt_of t ≡ vt
 tried vt n j other t is e next = by_test (eqb vt n) refl e
   where
     by_test : (b : Bool) → eqb vt n ≡ b → cond b (Some j) other ≡ Some t → vt_of t ≡ vt

@@ -4,3 +4,4 @@ pub mod Canon
 pub mod Arrays
 pub mod ArrayReading
 pub mod ArrayCanon
+pub mod promise

@@ -1,79 +1,14 @@
--- The encoding of a scalar: wireVARIANT (MS-OAUT section 2.2.29) with the arm of its type. The alignment is that of NDR
--- (C706 14.2.2). That CURRENCY, DECIMAL and wireVARIANT begin at a multiple of 8 is this project's choice.
-use Rattle.std.specs.Prelude.{◌≡◌, ℕ, ℤ, ◌+◌, ◌*◌, ◌^◌, ◌≤◌, ◌==◌, Bool, true, false, not, List, length, drop}
-use Rattle.byteorder.specs.Endian.{little_number}
-use Rattle.std.specs.Int.{Width, w8, w16, w32, w64, cast_signed}
-use Rattle.oa_ndr.specs.Forms.{Form, ◌▸◌, nothing, align, ignored, unit, with, given}
-use Rattle.oa_model.specs.Types.{vt_of}
-use Rattle.oa_variant.specs.Decimals.{DecimalValue}
-use Rattle.oa_variant.specs.Scalars.{type_of}
+-- Definitions for contracts and proofs, beside promise/Scalars.
+use Rattle.std.specs.Prelude.{◌≡◌, ℕ, ◌≤◌, List, length}
+use Rattle.oa_ndr.specs.promise.Forms.{Encoding, ◌▸◌, given}
 use Rattle.oa_variant.specs.declared.scalar.Scalar.{Scalar}
-use Rattle.oa_variant.specs.declared.scalar.Scalar.TheVariants as scalars
-use Rattle.oa_wire_text.specs.Texts.{bstr}
-
--- A signed number of the width w, in n bytes.
-abbrev pub signed_unit : ℕ → Width → ℤ → Form
-signed_unit n w z = with (unit n) (λ x. given (z ≡ cast_signed w x))
-
--- VARIANT_BOOL (MS-OAUT section 2.2.27): any number except 0 is true (this project's choice).
-abbrev pub truth : Bool → Form
-truth b = with (unit 2) (λ x. given (b ≡ not (x == 0)))
-
--- The byte of a sign, 0x80 for minus.
-abbrev pub sign_of : Bool → ℕ
-sign_of false = 0
-sign_of true = 128
-
-abbrev pub sign : Bool → Form
-sign negative = with (unit 1) (λ x. given (x ≡ sign_of negative))
-
--- DECIMAL (MS-OAUT section 2.2.26): a reserved number, scale, sign, Hi32, Lo64.
-abbrev pub decimal : DecimalValue → Form
-decimal d =
-    align 8 ▸ ignored 2 ▸ unit 1 d.scale ▸ sign d.negative
-    ▸ with (unit 4) (λ high. with (unit 8) (λ low. given ((d.scale ≤ 28) × (d.magnitude ≡ high * 2 ^ 64 + low))))
-
--- The arm of the scalar's type.
-abbrev pub arm : Scalar → Form
-arm scalars.Empty = nothing
-arm scalars.Null = nothing
-arm (scalars.I1 z) = signed_unit 1 w8 z
-arm (scalars.I2 z) = signed_unit 2 w16 z
-arm (scalars.I4 z) = signed_unit 4 w32 z
-arm (scalars.I8 z) = signed_unit 8 w64 z
-arm (scalars.Int z) = signed_unit 4 w32 z
-arm (scalars.Ui1 n) = unit 1 n
-arm (scalars.Ui2 n) = unit 2 n
-arm (scalars.Ui4 n) = unit 4 n
-arm (scalars.Ui8 n) = unit 8 n
-arm (scalars.Uint n) = unit 4 n
-arm (scalars.Cy z) = signed_unit 8 w64 z
-arm (scalars.Bool b) = truth b
-arm (scalars.Error n) = unit 4 n
-arm (scalars.Bstr t) = bstr t
-arm (scalars.Decimal d) = decimal d
-
--- The number of a scalar's type.
-abbrev pub scalar_vt : Scalar → ℕ
-scalar_vt v = vt_of (type_of v)
-
--- The union of a scalar: the discriminant, which is the vt, and the arm.
-abbrev pub union : Scalar → Form
-union v = unit 4 (scalar_vt v) ▸ arm v
+use Rattle.oa_wire_array.specs.promise.Scalars.{scalar_vt, union, own_vt}
 
 -- The union of a scalar whose vt is given.
-abbrev pub union_of : ℕ → Scalar → Form
+abbrev pub union_of : ℕ → Scalar → Encoding
 union_of vt v = given (scalar_vt v ≡ vt) ▸ union v
-
--- The vt of a wireVARIANT.
-abbrev pub own_vt : List ℕ → ℕ
-own_vt bytes = little_number 2 (drop 8 bytes)
 
 -- Decoding this scalar may allocate: it is a text, since the vt is VT_BSTR (MS-OAUT section 2.2.7), and the bytes have
 -- the head, the discriminant, the referent and the three numbers before the text, which are 16, 4, 4 and 12 bytes.
 abbrev pub TakesText : List ℕ → Type 0
 TakesText bytes = (36 ≤ length bytes) × (own_vt bytes ≡ 8)
-
--- A wireVARIANT: clSize, rpcReserved, vt, three reserved numbers, the union.
-abbrev pub scalar : Scalar → Form
-scalar v = align 8 ▸ ignored 4 ▸ ignored 4 ▸ unit 2 (scalar_vt v) ▸ ignored 2 ▸ ignored 2 ▸ ignored 2 ▸ union v

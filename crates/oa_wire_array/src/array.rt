@@ -1,7 +1,8 @@
 //! Decodes arrays.
 
 ghost use Rattle.std.specs.Prelude.{◌≡◌, ◌*◌, ◌≤◌, ◌<◌, true, IfOk, length, nat_le};
-ghost use Rattle.oa_ndr.specs.Reading.{many, map_at, referent_at};
+ghost use Rattle.oa_ndr.specs.promise.Reading.{many};
+ghost use Rattle.oa_ndr.specs.Reading.{map_at, referent_at};
 ghost use Rattle.oa_wire_text.specs.Reading.{ReadsField, OnMemory};
 ghost use Rattle.oa_wire_array.specs.Reading.{arm_at};
 ghost use Rattle.oa_wire_array.specs.Arrays.{IsArrayFront};
@@ -34,7 +35,7 @@ use oa_variant::Scalar;
 use oa_wire_text::{StubFault, read_blob};
 use std::alloc::{AllocError, Global};
 
-/// Reads a bound.
+/// Reads a bound of 8 bytes. Err: `BadStub`.
 #[tactic(auto, unfolding(oa_ndr::specs::Reading::steps, crate::specs::ArrayReading::bound_at, crate::specs::Reading::signed_at))]
 fn bound(r: &mut Ndr<'_>) -> Result<Bound, StubFault>
     ensures { ReadsField result r.new (bound_at r.old) }
@@ -44,7 +45,7 @@ fn bound(r: &mut Ndr<'_>) -> Result<Bound, StubFault>
     Ok(Bound { count, lower })
 }
 
-/// Reads `dims` bounds.
+/// Reads `dims` bounds. Errors: `BadStub`, `Memory`.
 fn bounds(alloc: Global, dims: u16, r: &mut Ndr<'_>) -> Result<Vec<Bound>, StubFault>
     ensures { ReadsFieldBy (λ v. v.items) result r.new (many bound_at dims r.old) }
 {
@@ -56,7 +57,7 @@ fn bounds(alloc: Global, dims: u16, r: &mut Ndr<'_>) -> Result<Vec<Bound>, StubF
     Ok(all)
 }
 
-/// Reads `count` referents and returns which are set.
+/// Reads `count` referents and returns which are set. Errors: `BadStub`, `Memory`.
 fn flags(alloc: Global, count: u32, r: &mut Ndr<'_>) -> Result<Vec<bool>, StubFault>
     ensures { ReadsFieldBy (λ v. v.items) result r.new (many referent_at count r.old) }
 {
@@ -68,7 +69,7 @@ fn flags(alloc: Global, count: u32, r: &mut Ndr<'_>) -> Result<Vec<bool>, StubFa
     Ok(all)
 }
 
-/// Makes `count` elements, to be replaced.
+/// Makes `count` elements, to be replaced. Err: the allocation fails.
 fn blank(alloc: Global, count: usize) -> Result<Cells<Scalar>, AllocError>
     ensures { IfOk result (λ cells. length cells ≡ count) }
 {
@@ -79,7 +80,7 @@ fn blank(alloc: Global, count: usize) -> Result<Cells<Scalar>, AllocError>
     )
 }
 
-/// Reads the text after a referent; null if the referent is null.
+/// Reads the text after a referent; null if the referent is null. Errors: `BadStub`, `Memory`.
 #[tactic(auto, unfolding(oa_ndr::specs::Reading::steps, crate::specs::ArrayReading::text_cell_at))]
 fn text_cell(alloc: Global, is_set: bool, r: &mut Ndr<'_>) -> Result<Scalar, StubFault>
     ensures { ReadsField result r.new (text_cell_at is_set r.old) }
@@ -90,7 +91,7 @@ fn text_cell(alloc: Global, is_set: bool, r: &mut Ndr<'_>) -> Result<Scalar, Stu
     Ok(Scalar::Bstr(Bstr::null()))
 }
 
-/// Reads the scalar after a referent; EMPTY if the referent is null.
+/// Reads the scalar after a referent; EMPTY if the referent is null. Errors: `BadStub`, `Memory`.
 #[tactic(auto, unfolding(oa_ndr::specs::Reading::steps, crate::specs::ArrayReading::variant_cell_at))]
 fn variant_cell(alloc: Global, is_set: bool, r: &mut Ndr<'_>) -> Result<Scalar, StubFault>
     ensures { ReadsField result r.new (variant_cell_at is_set r.old) }
@@ -101,8 +102,8 @@ fn variant_cell(alloc: Global, is_set: bool, r: &mut Ndr<'_>) -> Result<Scalar, 
     Ok(Scalar::Empty)
 }
 
-/// Reads the pointee of an element's referent.
-#[tactic(auto, unfolding(oa_ndr::specs::Reading::fail, crate::specs::ArrayReading::pointee_at))]
+/// Reads the pointee of an element's referent. Errors: `BadStub`, `Memory`.
+#[tactic(auto, unfolding(oa_ndr::specs::promise::Reading::fail, crate::specs::ArrayReading::pointee_at))]
 fn pointee(alloc: Global, elem: VarType, is_set: bool, r: &mut Ndr<'_>) -> Result<Scalar, StubFault>
     ensures { ReadsField result r.new (pointee_at elem is_set r.old) }
 {
@@ -113,7 +114,7 @@ fn pointee(alloc: Global, elem: VarType, is_set: bool, r: &mut Ndr<'_>) -> Resul
     }
 }
 
-/// Reads the pointees, one for each referent.
+/// Reads the pointees, one for each referent. Errors: `BadStub`, `Memory`.
 #[tactic(auto, using(crate::proofs::Loops::map_full, crate::proofs::Loops::map_put, crate::proofs::Loops::map_err))]
 fn pointees(
     alloc: Global,
@@ -131,7 +132,7 @@ fn pointees(
     Ok(cells)
 }
 
-/// Returns whether at least as many bytes are left as `count` elements without pointees need.
+/// Returns whether the bytes that `count` elements without pointees need are left.
 fn are_there(elem: VarType, count: u32, r: &Ndr<'_>) -> bool
     ensures { result ≡ nat_le (count * plain_width elem) (length r.now.rest) }
 {
@@ -143,7 +144,8 @@ fn are_there(elem: VarType, count: u32, r: &Ndr<'_>) -> bool
     count as u64 * width as u64 <= r.rest().len() as u64
 }
 
-/// Reads elements without pointees. Allocates nothing if the bytes are not there.
+/// Reads `count` elements without pointees. Allocates nothing if the bytes are not there. Errors:
+/// `BadStub`, `Memory`.
 #[tactic(auto, using(crate::proofs::Loops::cells_full, crate::proofs::Loops::cells_put, crate::proofs::Loops::cells_err))]
 fn plain(
     alloc: Global,
@@ -164,8 +166,9 @@ fn plain(
     Ok(cells)
 }
 
-/// Reads elements with pointees: first all referents, then the pointees.
-#[tactic(auto, unfolding(oa_ndr::specs::Reading::bind, crate::specs::ArrayReading::pointed_at))]
+/// Reads `count` elements with pointees: first all referents, then the pointees. Errors: `BadStub`,
+/// `Memory`.
+#[tactic(auto, unfolding(oa_ndr::specs::promise::Reading::bind, crate::specs::ArrayReading::pointed_at))]
 fn pointed(
     alloc: Global,
     elem: VarType,
@@ -178,7 +181,7 @@ fn pointed(
     pointees(alloc, elem, &flags, r)
 }
 
-/// Reads the elements of an array.
+/// Reads the `count` elements of an array. Errors: `BadStub`, `Memory`.
 #[tactic(auto, unfolding(crate::specs::ArrayReading::elements_at))]
 fn elements(
     alloc: Global,
@@ -211,7 +214,7 @@ fn is_count(elem: VarType, bounds: &[Bound], count: u32) -> bool
     }
 }
 
-/// Reads the elements and makes the array.
+/// Reads the `count` elements and makes the array. Errors: `BadStub`, `Memory`.
 #[tactic(auto, unfolding(oa_ndr::specs::Reading::steps, crate::specs::ArrayReading::cells_at))]
 fn cells(
     alloc: Global,
@@ -228,7 +231,7 @@ fn cells(
     Ok(array)
 }
 
-/// Reads the bounds, the maximum count of the data, and the data.
+/// Reads the bounds, the maximum count of the data, and the data. Errors: `BadStub`, `Memory`.
 #[tactic(auto, unfolding(oa_ndr::specs::Reading::steps, crate::specs::ArrayReading::data_at))]
 fn data(
     alloc: Global,
@@ -247,7 +250,8 @@ fn data(
     Err(StubFault::BadStub)
 }
 
-/// Reads the maximum count, cDims, fFeatures, cbElements, cLocks, sfType, Size and the pointer, with its pointee.
+/// Reads the maximum count, cDims, fFeatures, cbElements, cLocks, sfType, Size and the pointer,
+/// with its pointee. Errors: `BadStub`, `Memory`.
 #[tactic(auto, unfolding(oa_ndr::specs::Reading::steps, crate::specs::ArrayReading::header_at))]
 fn header(alloc: Global, elem: VarType, r: &mut Ndr<'_>) -> Result<SafeArray<Scalar>, StubFault>
     ensures value { ReadsField result r.new (header_at elem r.old) }
@@ -267,7 +271,8 @@ fn header(alloc: Global, elem: VarType, r: &mut Ndr<'_>) -> Result<SafeArray<Sca
     Err(StubFault::BadStub)
 }
 
-/// Reads an array from its second referent on; after an error the reader may have moved.
+/// Reads an array from its second referent on. Errors: `BadStub`, `Memory`; the reader may have
+/// moved.
 #[tactic(auto, unfolding(oa_ndr::specs::Reading::steps, crate::specs::ArrayReading::array_at))]
 fn array(alloc: Global, elem: VarType, r: &mut Ndr<'_>) -> Result<SafeArray<Scalar>, StubFault>
     ensures value { ReadsField result r.new (array_at elem r.old) }
@@ -279,14 +284,16 @@ fn array(alloc: Global, elem: VarType, r: &mut Ndr<'_>) -> Result<SafeArray<Scal
     Err(StubFault::BadStub)
 }
 
-/// Reads an array of elements of the type `elem`, from the second of its two referents on, with all its pointees (wireSAFEARRAY, MS-OAUT
-/// section 2.2.30.10). fFeatures, cbElements, cLocks and the value of the pointer are ignored. A null referent in an array of VARIANT is
-/// EMPTY. The array has no locks. After an error the reader has not moved.
+/// Reads an array of elements of the type `elem`, from the second of its two referents on, with all
+/// its pointees (wireSAFEARRAY, MS-OAUT section 2.2.30.10). fFeatures, cbElements, cLocks and the
+/// value of the pointer are ignored. A null referent in an array of VARIANT is EMPTY. The array has
+/// no locks. After an error the reader has not moved.
 ///
 /// Errors:
 /// - `BadVarType`: there are no arrays of the type (EMPTY, NULL, ERROR and DECIMAL).
-/// - `BadStub`: otherwise, no bytes from the reader on encode such an array. For example, the referent is null, cDims is not its maximum
-///   count or not 1 to 16, sfType is not that of the type, or Size or the maximum count of the data is not the product of the counts or is
+/// - `BadStub`: otherwise, no bytes from the reader on encode such an array. For example, the
+///   referent is null, cDims is not its maximum count or not 1 to 16, or sfType is not that of the
+///   type. Size or the maximum count of the data may also not be the product of the counts, or be
 ///   above 65,536.
 /// - `Memory`: an allocation fails. This occurs only if the 32 bytes before the bounds are there.
 pub fn read_array(

@@ -1,22 +1,23 @@
 //! The length of encoded arrays, computed without encoding them.
 
 ghost use Rattle.std.specs.Prelude.{◌≡◌, ◌≤◌, ◌<◌, ◌+◌, ◌*◌, ◌%◌, ◌^◌, All, length, List, ℕ};
-ghost use Rattle.oa_ndr.specs.Forms.{padding};
-ghost use Rattle.oa_ndr.specs.Writing.{put_all};
-ghost use Rattle.oa_variant.specs.Scalars.{text_of, FitsType};
+ghost use Rattle.oa_ndr.specs.promise.Forms.{padding};
+ghost use Rattle.oa_ndr.specs.promise.Writing.{put_all};
+ghost use Rattle.oa_variant.specs.promise.Scalars.{text_of, FitsType};
 ghost use Rattle.std.specs.Option.{IsSome};
 ghost use Rattle.std.specs.Prelude.{false, Some, ◌⊎◌};
-ghost use Rattle.oa_model.specs.Limits.{max_cells};
-ghost use Rattle.oa_model.specs.Types.{sf_type_of, element_size_of};
-ghost use Rattle.oa_wire_array.specs.Canon.{put_arm};
-ghost use Rattle.oa_wire_array.specs.ArrayCanon.{is_pointed, max_wire_cell, max_wire_pointee, put_text, put_pointee, put_elements, put_array};
+ghost use Rattle.oa_model.specs.promise.Limits.{max_cells};
+ghost use Rattle.oa_model.specs.promise.Types.{sf_type_of, element_size_of};
+ghost use Rattle.oa_wire_array.specs.promise.Canon.{put_arm};
+ghost use Rattle.oa_wire_array.specs.ArrayCanon.{is_pointed, max_wire_cell, max_wire_pointee};
+ghost use Rattle.oa_wire_array.specs.promise.ArrayCanon.{put_text, put_pointee, put_elements, put_array};
 
 use crate::scalar::scalar_len;
 use oa_array::SafeArray;
 use oa_model::VarType;
 use oa_variant::Scalar;
 
-/// Returns the next multiple of n.
+/// Returns the next multiple of `n` from `place` on.
 fn aligned(n: usize, place: usize) -> usize
     requires above { 0 < n }
     requires small { n ≤ 16 }
@@ -28,7 +29,8 @@ fn aligned(n: usize, place: usize) -> usize
     if over == 0 { place } else { place + n - over }
 }
 
-/// Returns the end of the text of an element; a null text needs no bytes.
+/// Returns the offset after the text of an element, from offset `place` on; a null text needs no
+/// bytes.
 fn text_end(cell: &Scalar, place: usize) -> usize
     requires { place < 2 ^ 59 }
     ensures value { (out : List ℕ) → length out ≡ place → length (put_text (text_of cell.now) out) ≡ result }
@@ -46,7 +48,7 @@ fn text_end(cell: &Scalar, place: usize) -> usize
     }
 }
 
-/// Returns the end of the pointee of an element.
+/// Returns the offset after the pointee of an element, from offset `place` on.
 fn pointee_end(elem: VarType, cell: &Scalar, place: usize) -> usize
     requires { place < 2 ^ 59 }
     ensures value { (out : List ℕ) → length out ≡ place → length (put_pointee elem cell.now out) ≡ result }
@@ -58,7 +60,7 @@ fn pointee_end(elem: VarType, cell: &Scalar, place: usize) -> usize
     }
 }
 
-/// Returns the end of the pointees of elements.
+/// Returns the offset after the pointees of elements, from offset `place` on.
 fn pointees_end(elem: VarType, cells: &[Scalar], place: usize) -> usize
     requires few { length cells.now ≤ max_cells }
     requires room { place < 2 ^ 58 }
@@ -91,7 +93,7 @@ fn plain_len(elem: VarType) -> usize
     elem.element_size().unwrap_or(0) as usize
 }
 
-/// Returns the end of elements without pointees.
+/// Returns the offset after elements without pointees, from offset `place` on.
 fn plain_end(elem: VarType, cells: &[Scalar], place: usize) -> usize
     requires plain { is_pointed elem ≡ false }
     requires typed { IsSome (sf_type_of elem) }
@@ -109,7 +111,7 @@ fn plain_end(elem: VarType, cells: &[Scalar], place: usize) -> usize
     aligned(width, place) + width * count
 }
 
-/// Returns the end of the elements of an array.
+/// Returns the offset after the elements of an array, from offset `place` on.
 fn elements_end(elem: VarType, cells: &[Scalar], place: usize) -> usize
     requires typed { IsSome (sf_type_of elem) }
     requires fits { All (λ cell. FitsType cell elem) cells.now }
@@ -125,8 +127,9 @@ fn elements_end(elem: VarType, cells: &[Scalar], place: usize) -> usize
     plain_end(elem, cells, place)
 }
 
-/// Returns the end of an array that `write_array` writes from the offset `place` on. Both are offsets in bytes from the first byte of the
-/// field. `place` is a multiple of 4, as that of a referent is, and at most 64.
+/// Returns the end of an array that `write_array` writes from the offset `place` on. Both are
+/// offsets in bytes from the first byte of the field. `place` is a multiple of 4, as that of a
+/// referent is, and at most 64.
 pub fn array_end(array: &SafeArray<Scalar>, place: usize) -> usize
     requires place { place % 4 ≡ 0 }
     requires small { place ≤ 64 }

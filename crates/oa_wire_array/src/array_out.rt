@@ -1,22 +1,13 @@
 //! Encodes arrays.
 
 ghost use Rattle.std.specs.Prelude.{◌≡◌, ◌<◌, ◌*◌, OnOk, OnErr};
-ghost use Rattle.oa_ndr.specs.Writing.{TakesNothingBack, in_field, put_all};
-ghost use Rattle.oa_variant.specs.Scalars.{text_of};
-ghost use Rattle.oa_wire_array.specs.Canon.{put_arm};
-ghost use Rattle.oa_wire_array.specs.ArrayCanon.{
-  put_bound,
-  has_pointee,
-  put_text,
-  put_pointee,
-  put_cell_referent,
-  put_pointed,
-  put_elements,
-  features_of,
-  put_shape,
-  put_size,
-  put_array,
-};
+ghost use Rattle.oa_ndr.specs.Writing.{TakesNothingBack, in_field};
+ghost use Rattle.oa_ndr.specs.promise.Writing.{put_all};
+ghost use Rattle.oa_variant.specs.promise.Scalars.{text_of};
+ghost use Rattle.oa_wire_array.specs.promise.Canon.{put_arm};
+ghost use Rattle.oa_wire_array.specs.promise.ArrayCanon.{put_bound, has_pointee, put_text, put_pointee};
+ghost use Rattle.oa_wire_array.specs.promise.ArrayCanon.{put_cell_referent, put_pointed, put_elements, features_of};
+ghost use Rattle.oa_wire_array.specs.promise.ArrayCanon.{put_shape, put_size, put_array};
 
 use crate::scalar::{add_scalar, write_arm};
 use oa_array::SafeArray;
@@ -26,7 +17,7 @@ use oa_variant::Scalar;
 use oa_wire_text::add_blob;
 use std::alloc::AllocError;
 
-/// Writes a bound.
+/// Writes a bound in 8 bytes. Err: an allocation fails.
 fn write_bound(out: &mut NdrOut, bound: Bound) -> Result<(), AllocError>
     ensures ok { OnOk result (out.new ≡ in_field (put_bound bound) out.old) }
     ensures kept { TakesNothingBack out.old out.new }
@@ -35,7 +26,7 @@ fn write_bound(out: &mut NdrOut, bound: Bound) -> Result<(), AllocError>
     out.u32(bound.lower.cast_unsigned())
 }
 
-/// Writes the bounds.
+/// Writes the bounds. Err: an allocation fails.
 fn write_bounds(out: &mut NdrOut, bounds: &[Bound]) -> Result<(), AllocError>
     ensures ok { OnOk result (out.new ≡ in_field (put_all put_bound bounds.now) out.old) }
     ensures kept { TakesNothingBack out.old out.new }
@@ -46,7 +37,7 @@ fn write_bounds(out: &mut NdrOut, bounds: &[Bound]) -> Result<(), AllocError>
     Ok(())
 }
 
-/// Writes elements without pointees.
+/// Writes elements without pointees. Err: an allocation fails.
 fn write_plain(out: &mut NdrOut, cells: &[Scalar]) -> Result<(), AllocError>
     ensures ok { OnOk result (out.new ≡ in_field (put_all put_arm cells.now) out.old) }
     ensures kept { TakesNothingBack out.old out.new }
@@ -68,7 +59,7 @@ fn has_pointee(elem: VarType, cell: &Scalar) -> bool
     }
 }
 
-/// Writes the referents of elements.
+/// Writes the referents of elements. Err: an allocation fails.
 fn write_referents(out: &mut NdrOut, elem: VarType, cells: &[Scalar]) -> Result<(), AllocError>
     ensures ok { OnOk result (out.new ≡ in_field (put_all (put_cell_referent elem) cells.now) out.old) }
     ensures kept { TakesNothingBack out.old out.new }
@@ -79,7 +70,7 @@ fn write_referents(out: &mut NdrOut, elem: VarType, cells: &[Scalar]) -> Result<
     Ok(())
 }
 
-/// Writes the text of an element, unless it is null.
+/// Writes the text of an element, unless it is null. Err: an allocation fails.
 fn write_cell_text(out: &mut NdrOut, cell: &Scalar) -> Result<(), AllocError>
     ensures ok { OnOk result (out.new ≡ in_field (put_text (text_of cell.now)) out.old) }
     ensures kept { TakesNothingBack out.old out.new }
@@ -95,7 +86,7 @@ fn write_cell_text(out: &mut NdrOut, cell: &Scalar) -> Result<(), AllocError>
     }
 }
 
-/// Writes the pointee of an element.
+/// Writes the pointee of an element. Err: an allocation fails.
 fn write_pointee(out: &mut NdrOut, elem: VarType, cell: &Scalar) -> Result<(), AllocError>
     ensures ok { OnOk result (out.new ≡ in_field (put_pointee elem cell.now) out.old) }
     ensures kept { TakesNothingBack out.old out.new }
@@ -106,7 +97,7 @@ fn write_pointee(out: &mut NdrOut, elem: VarType, cell: &Scalar) -> Result<(), A
     }
 }
 
-/// Writes the pointees of elements.
+/// Writes the pointees of elements. Err: an allocation fails.
 fn write_pointees(out: &mut NdrOut, elem: VarType, cells: &[Scalar]) -> Result<(), AllocError>
     ensures ok { OnOk result (out.new ≡ in_field (put_all (put_pointee elem) cells.now) out.old) }
     ensures kept { TakesNothingBack out.old out.new }
@@ -117,7 +108,7 @@ fn write_pointees(out: &mut NdrOut, elem: VarType, cells: &[Scalar]) -> Result<(
     Ok(())
 }
 
-/// Writes elements with pointees: first all referents, then the pointees.
+/// Writes elements with pointees: first all referents, then the pointees. Err: an allocation fails.
 fn write_pointed(out: &mut NdrOut, elem: VarType, cells: &[Scalar]) -> Result<(), AllocError>
     ensures ok { OnOk result (out.new ≡ in_field (put_pointed elem cells.now) out.old) }
     ensures kept { TakesNothingBack out.old out.new }
@@ -126,7 +117,7 @@ fn write_pointed(out: &mut NdrOut, elem: VarType, cells: &[Scalar]) -> Result<()
     write_pointees(out, elem, cells)
 }
 
-/// Writes the elements of an array.
+/// Writes the elements of an array. Err: an allocation fails.
 fn write_elements(out: &mut NdrOut, elem: VarType, cells: &[Scalar]) -> Result<(), AllocError>
     ensures ok { OnOk result (out.new ≡ in_field (put_elements elem cells.now) out.old) }
     ensures kept { TakesNothingBack out.old out.new }
@@ -148,7 +139,8 @@ fn features_of(elem: VarType) -> u16
     }
 }
 
-/// Writes the second referent, the maximum count, cDims, fFeatures and cbElements.
+/// Writes the second referent, the maximum count, cDims, fFeatures and cbElements. Err: an
+/// allocation fails.
 fn write_shape(out: &mut NdrOut, elem: VarType, dims: u16) -> Result<(), AllocError>
     ensures ok { OnOk result (out.new ≡ in_field (put_shape elem dims) out.old) }
     ensures kept { TakesNothingBack out.old out.new }
@@ -160,7 +152,7 @@ fn write_shape(out: &mut NdrOut, elem: VarType, dims: u16) -> Result<(), AllocEr
     out.u32(elem.element_size().unwrap_or(0))
 }
 
-/// Writes cLocks, sfType, Size and the pointer.
+/// Writes cLocks, sfType, Size and the pointer. Err: an allocation fails.
 fn write_size(out: &mut NdrOut, elem: VarType, count: u32) -> Result<(), AllocError>
     ensures ok { OnOk result (out.new ≡ in_field (put_size elem count) out.old) }
     ensures kept { TakesNothingBack out.old out.new }
@@ -171,8 +163,9 @@ fn write_size(out: &mut NdrOut, elem: VarType, count: u32) -> Result<(), AllocEr
     out.referent(true)
 }
 
-/// As `write_array`, but if an allocation fails, a part of the array may have been written.
-#[tactic(auto, unfolding(crate::specs::ArrayCanon::put_array))]
+/// Writes an array as `write_array` does. Err: an allocation fails, and a part of the array may
+/// have been written.
+#[tactic(auto, unfolding(crate::specs::promise::ArrayCanon::put_array))]
 fn add_array(out: &mut NdrOut, array: &SafeArray<Scalar>) -> Result<(), AllocError>
     ensures ok { OnOk result (out.new ≡ in_field (put_array array.now) out.old) }
     ensures kept { TakesNothingBack out.old out.new }
@@ -187,9 +180,10 @@ fn add_array(out: &mut NdrOut, array: &SafeArray<Scalar>) -> Result<(), AllocErr
     write_elements(out, elem, cells)
 }
 
-/// Writes an array from the second of its two referents on, with all its pointees (see `read_array`): fFeatures is 0x80, with 0x100 added
-/// for BSTR and 0x800 for VARIANT; cbElements is that of a 32-bit process; the high half of cLocks is the vt of the elements; a null text
-/// is a null referent. Locks are not written. Err: an allocation fails; the output is unchanged.
+/// Writes an array from the second of its two referents on, with all its pointees (see
+/// `read_array`). fFeatures is 0x80, with 0x100 added for BSTR and 0x800 for VARIANT. cbElements is
+/// that of a 32-bit process. The high half of cLocks is the vt of the elements. A null text is a
+/// null referent. Locks are not written. Err: an allocation fails; the output is unchanged.
 pub fn write_array(out: &mut NdrOut, array: &SafeArray<Scalar>) -> Result<(), AllocError>
     ensures ok { OnOk result (out.new ≡ in_field (put_array array.now) out.old) }
     ensures err { OnErr result (out.new ≡ out.old) }

@@ -3,10 +3,13 @@
 ghost use Rattle.std.specs.Prelude.{◌≡◌, ◌≤◌, ◌<◌, [], OnOk, OnErr, length};
 ghost use Rattle.oa_model.specs.declared.var_type.VarType.TheVariants as types;
 ghost use Rattle.oa_ndr.specs.Writing.{TakesNothingBack, in_field};
-ghost use Rattle.oa_wire_array.specs.Scalars.{scalar, union_of, TakesText};
+ghost use Rattle.oa_wire_array.specs.promise.Scalars.{scalar};
+ghost use Rattle.oa_wire_array.specs.Scalars.{union_of, TakesText};
 ghost use Rattle.oa_wire_text.specs.Reading.{ReadsField, IsFront, OnMemory, from_multiple};
 ghost use Rattle.oa_wire_array.specs.Reading.{sign_at, decimal_at, arm_at, union_at, scalar_at};
-ghost use Rattle.oa_wire_array.specs.Canon.{max_wire_scalar, put_truth, put_decimal, put_arm, put_head, put_sized, put_scalar, scalar_len};
+ghost use Rattle.oa_wire_array.specs.Canon.{max_wire_scalar};
+ghost use Rattle.oa_wire_array.specs.promise.Canon.{put_truth, put_decimal, put_arm, put_head, put_sized, put_scalar};
+ghost use Rattle.oa_wire_array.specs.promise.Canon.{scalar_len};
 
 use oa_model::VarType;
 use oa_ndr::{Ndr, NdrOut};
@@ -14,7 +17,7 @@ use oa_variant::{Decimal, Scalar};
 use oa_wire_text::{StubFault, read_bstr, write_bstr};
 use std::alloc::{AllocError, Global};
 
-/// Reads the sign of a DECIMAL.
+/// Reads the sign of a DECIMAL. Err: `BadStub` if it is neither 0 nor 0x80.
 #[tactic(auto, unfolding(oa_ndr::specs::Reading::steps, crate::specs::Reading::sign_at))]
 fn sign(r: &mut Ndr<'_>) -> Result<bool, StubFault>
     ensures value { ReadsField result r.new (sign_at r.old) }
@@ -27,7 +30,7 @@ fn sign(r: &mut Ndr<'_>) -> Result<bool, StubFault>
     }
 }
 
-/// Reads a DECIMAL.
+/// Reads a DECIMAL. Err: `BadStub`, also for a scale above 28.
 #[tactic(auto, unfolding(oa_ndr::specs::Reading::steps, crate::specs::Reading::decimal_at))]
 fn decimal(r: &mut Ndr<'_>) -> Result<Decimal, StubFault>
     ensures value { ReadsField result r.new (decimal_at r.old) }
@@ -46,8 +49,9 @@ fn decimal(r: &mut Ndr<'_>) -> Result<Decimal, StubFault>
     Ok(Decimal::new(negative, scale, magnitude))
 }
 
-/// Reads the arm of a type.
-#[tactic(auto, unfolding(oa_ndr::specs::Reading::steps, crate::specs::Reading::arm_at, crate::specs::Reading::signed_at, crate::specs::Reading::truth_at))]
+/// Reads the arm of a type, with its pointee. Errors: `BadStub`, `Memory`; the reader may have
+/// moved.
+#[tactic(auto, unfolding(oa_ndr::specs::Reading::steps, crate::specs::Reading::arm_at, crate::specs::Reading::integer_at, crate::specs::Reading::signed_at, crate::specs::Reading::truth_at))]
 pub(crate) fn arm(alloc: Global, var_type: VarType, r: &mut Ndr<'_>) -> Result<Scalar, StubFault>
     ensures value { ReadsField result r.new (arm_at var_type r.old) }
     ensures memory { OnMemory result ((var_type ≡ types.Bstr) × (16 ≤ length r.old.rest)) }
@@ -74,7 +78,8 @@ pub(crate) fn arm(alloc: Global, var_type: VarType, r: &mut Ndr<'_>) -> Result<S
     })
 }
 
-/// Reads a union, as `read_union` does, but after an error the reader may have moved.
+/// Reads a union, as `read_union` does. Errors are those of `read_union`, but the reader may have
+/// moved.
 #[tactic(auto, unfolding(oa_ndr::specs::Reading::steps, crate::specs::Reading::arm_of, crate::specs::Reading::union_at))]
 fn union(alloc: Global, vt: u16, r: &mut Ndr<'_>) -> Result<Scalar, StubFault>
     ensures value { ReadsField result r.new (union_at vt r.old) }
@@ -90,11 +95,12 @@ fn union(alloc: Global, vt: u16, r: &mut Ndr<'_>) -> Result<Scalar, StubFault>
     }
 }
 
-/// Reads the union of a wireVARIANT without VT_ARRAY (MS-OAUT section 2.2.29.1), whose vt has been read before: the discriminant, which
-/// must be that vt, and the arm with its pointee. After an error the reader has not moved.
+/// Reads the union of a wireVARIANT without VT_ARRAY (MS-OAUT section 2.2.29.1), whose vt has been
+/// read before: the discriminant, which must be that vt, and the arm with its pointee. After an
+/// error the reader has not moved.
 ///
-/// Errors: `BadStub` if no bytes from the reader on are those of a scalar with that vt; `Memory` if the allocation of a BSTR fails, which
-/// occurs only if the 20 bytes before a text are there.
+/// Errors: `BadStub` if no bytes from the reader on are those of a scalar with that vt; `Memory` if
+/// the allocation of a BSTR fails, which occurs only if the 20 bytes before a text are there.
 pub fn read_union(alloc: Global, vt: u16, r: &mut Ndr<'_>) -> Result<Scalar, StubFault>
     ensures exact { IsFront (union_of vt) result r.old r.new }
     ensures memory { OnMemory result ((vt ≡ 8) × (20 ≤ length r.old.rest)) }
@@ -107,8 +113,9 @@ pub fn read_union(alloc: Global, vt: u16, r: &mut Ndr<'_>) -> Result<Scalar, Stu
     answer
 }
 
-/// As `read_scalar`, but after an error the reader may have moved.
-#[tactic(auto, unfolding(oa_ndr::specs::Reading::bind, crate::specs::Reading::scalar_at))]
+/// Reads a scalar as `read_scalar` does. Errors are those of `read_scalar`, but the reader may have
+/// moved.
+#[tactic(auto, unfolding(oa_ndr::specs::promise::Reading::bind, crate::specs::Reading::scalar_at))]
 pub(crate) fn scalar(alloc: Global, r: &mut Ndr<'_>) -> Result<Scalar, StubFault>
     ensures value { ReadsField result r.new (scalar_at r.old) }
     ensures memory { OnMemory result (TakesText (from_multiple 8 r.old)) }
@@ -123,11 +130,12 @@ pub(crate) fn scalar(alloc: Global, r: &mut Ndr<'_>) -> Result<Scalar, StubFault
     union(alloc, vt, r)
 }
 
-/// Reads a wireVARIANT without VT_ARRAY at the next multiple of 8, with its pointee (MS-OAUT section 2.2.29): clSize at its first byte, vt
-/// at 8, the discriminant at 16, the arm from 20 on. clSize and reserved numbers are ignored. After an error the reader has not moved.
+/// Reads a wireVARIANT without VT_ARRAY at the next multiple of 8, with its pointee (MS-OAUT
+/// section 2.2.29): clSize at its first byte, vt at 8, the discriminant at 16, the arm from 20 on.
+/// clSize and reserved numbers are ignored. After an error the reader has not moved.
 ///
-/// Errors: `BadStub` if no bytes from the reader on encode a scalar; `Memory` if the allocation of a BSTR fails, which occurs only if the
-/// 36 bytes before a text are there.
+/// Errors: `BadStub` if no bytes from the reader on encode a scalar; `Memory` if the allocation of
+/// a BSTR fails, which occurs only if the 36 bytes before a text are there.
 pub fn read_scalar(alloc: Global, r: &mut Ndr<'_>) -> Result<Scalar, StubFault>
     ensures exact { IsFront scalar result r.old r.new }
     ensures memory { OnMemory result (TakesText (from_multiple 8 r.old)) }
@@ -140,7 +148,7 @@ pub fn read_scalar(alloc: Global, r: &mut Ndr<'_>) -> Result<Scalar, StubFault>
     answer
 }
 
-/// Writes a VARIANT_BOOL.
+/// Writes a VARIANT_BOOL. Err: an allocation fails.
 fn write_truth(out: &mut NdrOut, truth: bool) -> Result<(), AllocError>
     ensures ok { OnOk result (out.new ≡ in_field (put_truth truth) out.old) }
     ensures kept { TakesNothingBack out.old out.new }
@@ -148,7 +156,7 @@ fn write_truth(out: &mut NdrOut, truth: bool) -> Result<(), AllocError>
     out.u16(if truth { 0xFFFF } else { 0 })
 }
 
-/// Writes a DECIMAL.
+/// Writes a DECIMAL. Err: an allocation fails.
 fn write_decimal(out: &mut NdrOut, decimal: &Decimal) -> Result<(), AllocError>
     ensures ok { OnOk result (out.new ≡ in_field (put_decimal decimal.now) out.old) }
     ensures kept { TakesNothingBack out.old out.new }
@@ -162,7 +170,8 @@ fn write_decimal(out: &mut NdrOut, decimal: &Decimal) -> Result<(), AllocError>
     out.u64((magnitude % 0x1_0000_0000_0000_0000) as u64)
 }
 
-/// Writes the arm of a scalar.
+/// Writes the arm of a scalar, with its pointee. Err: an allocation fails, and a part may have been
+/// written.
 pub(crate) fn write_arm(out: &mut NdrOut, value: &Scalar) -> Result<(), AllocError>
     ensures ok { OnOk result (out.new ≡ in_field (put_arm value.now) out.old) }
     ensures kept { TakesNothingBack out.old out.new }
@@ -188,7 +197,8 @@ pub(crate) fn write_arm(out: &mut NdrOut, value: &Scalar) -> Result<(), AllocErr
     }
 }
 
-/// Returns the bytes of a head at a multiple of 8. They are made at once, since a head is most of a scalar.
+/// Returns the bytes of a head at a multiple of 8. They are made at once, since a head is most of a
+/// scalar.
 fn head_bytes(size: u32, vt: u16) -> [u8; 16]
     ensures { result ≡ put_head size vt [] }
 {
@@ -197,7 +207,8 @@ fn head_bytes(size: u32, vt: u16) -> [u8; 16]
     [a, b, c, d, 0, 0, 0, 0, e, f, 0, 0, 0, 0, 0, 0]
 }
 
-/// As `write_head`, but if an allocation fails, a part of the head may have been written.
+/// Writes a head as `write_head` does. Err: an allocation fails, and a part of the head may have
+/// been written.
 fn add_head(out: &mut NdrOut, size: u32, vt: u16) -> Result<(), AllocError>
     ensures ok { OnOk result (out.new ≡ in_field (put_head size vt) out.old) }
     ensures kept { TakesNothingBack out.old out.new }
@@ -206,8 +217,8 @@ fn add_head(out: &mut NdrOut, size: u32, vt: u16) -> Result<(), AllocError>
     out.bytes(&head_bytes(size, vt))
 }
 
-/// Writes the start of a wireVARIANT (MS-OAUT section 2.2.29) at the next multiple of 8: clSize, rpcReserved, vt and three reserved
-/// numbers. Err: an allocation fails; the output is unchanged.
+/// Writes the start of a wireVARIANT (MS-OAUT section 2.2.29) at the next multiple of 8: clSize,
+/// rpcReserved, vt and three reserved numbers. Err: an allocation fails; the output is unchanged.
 pub fn write_head(out: &mut NdrOut, size: u32, vt: u16) -> Result<(), AllocError>
     ensures ok { OnOk result (out.new ≡ in_field (put_head size vt) out.old) }
     ensures err { OnErr result (out.new ≡ out.old) }
@@ -220,7 +231,7 @@ pub fn write_head(out: &mut NdrOut, size: u32, vt: u16) -> Result<(), AllocError
     Ok(())
 }
 
-/// Writes a scalar with a given clSize.
+/// Writes a scalar with a given clSize. Err: an allocation fails, and a part may have been written.
 fn write_sized(out: &mut NdrOut, size: u32, value: &Scalar) -> Result<(), AllocError>
     ensures ok { OnOk result (out.new ≡ in_field (put_sized size value.now) out.old) }
     ensures kept { TakesNothingBack out.old out.new }
@@ -231,8 +242,9 @@ fn write_sized(out: &mut NdrOut, size: u32, value: &Scalar) -> Result<(), AllocE
     write_arm(out, value)
 }
 
-/// Returns the number of bytes that `write_scalar` writes at a multiple of 8, from the first of clSize to the last of the pointee.
-#[tactic(auto, unfolding(crate::specs::Canon::scalar_len))]
+/// Returns the number of bytes that `write_scalar` writes at a multiple of 8, from the first of
+/// clSize to the last of the pointee.
+#[tactic(auto, unfolding(crate::specs::promise::Canon::scalar_len))]
 pub fn scalar_len(value: &Scalar) -> usize
     ensures value { result ≡ scalar_len value.now }
     ensures small { result ≤ max_wire_scalar }
@@ -254,7 +266,8 @@ pub fn scalar_len(value: &Scalar) -> usize
     }
 }
 
-/// As `write_scalar`, but if an allocation fails, a part of the scalar may have been written.
+/// Writes a scalar as `write_scalar` does. Err: an allocation fails, and a part of the scalar may
+/// have been written.
 pub(crate) fn add_scalar(out: &mut NdrOut, value: &Scalar) -> Result<(), AllocError>
     ensures ok { OnOk result (out.new ≡ in_field (put_scalar value.now) out.old) }
     ensures kept { TakesNothingBack out.old out.new }
@@ -263,8 +276,9 @@ pub(crate) fn add_scalar(out: &mut NdrOut, value: &Scalar) -> Result<(), AllocEr
     write_sized(out, size as u32, value)
 }
 
-/// Writes a wireVARIANT without VT_ARRAY at the next multiple of 8, with its pointee (see `read_scalar`). clSize is the number of its bytes
-/// in units of 8, rounded up. Err: an allocation fails; the output is unchanged.
+/// Writes a wireVARIANT without VT_ARRAY at the next multiple of 8, with its pointee (see
+/// `read_scalar`). clSize is the number of its bytes in units of 8, rounded up. Err: an allocation
+/// fails; the output is unchanged.
 pub fn write_scalar(out: &mut NdrOut, value: &Scalar) -> Result<(), AllocError>
     ensures ok { OnOk result (out.new ≡ in_field (put_scalar value.now) out.old) }
     ensures err { OnErr result (out.new ≡ out.old) }

@@ -1,7 +1,8 @@
 -- Facts that hold after a failed allocation; bytes that have been read are there.
 use Rattle.std.proofs.Common.{◌≡◌, ℕ, ◌+◌, ◌≤◌, Bool, length, Some, Result, Ok, Err, ap, arith}
 use Rattle.std.proofs.lemmas.List.{length-append}
-use Rattle.oa_ndr.specs.Reading.{Cursor, unit_at, referent_at}
+use Rattle.oa_ndr.specs.promise.Reading.{Cursor}
+use Rattle.oa_ndr.specs.Reading.{unit_at, referent_at}
 use Rattle.oa_ndr.proofs.Laws.{unit_reads, referent_reads}
 use Rattle.oa_wire_text.specs.declared.fault.StubFault.{StubFault}
 use Rattle.oa_wire_text.specs.declared.fault.StubFault.TheVariants.{BadStub, Memory}
@@ -22,7 +23,14 @@ pub referent_there : (s t : Cursor) (b : Bool) → referent_at s ≡ Some (b, t)
 referent_there s t b e =
     let one = (referent_reads.takes s.position s.rest b t e).1 in
     let front = one.form.form.first in
-    omega (arith, ap length one.parts, length-append one.text t.rest, ap length one.form.form.parts, length-append one.form.form.front one.form.form.back, front.len)
+    omega (
+      arith,
+      ap length one.parts,
+      length-append one.text t.rest,
+      ap length one.form.form.parts,
+      length-append one.form.form.front one.form.form.back,
+      front.len,
+    )
 
 -- A fact that always holds also holds after a failed allocation.
 pub anyhow : {A : Type 0} {P : Type 0} (r : Result A StubFault) → P → OnMemory r P

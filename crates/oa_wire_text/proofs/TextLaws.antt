@@ -2,19 +2,20 @@
 use Rattle.std.proofs.Common.{◌≡◌, ℕ, ◌%◌, ◌≤◌, Bool, true, false, eqb, leb, ◌&&◌, List, [], length, Option, Some, None, refl, sym, ap, ◌∙◌}
 use Rattle.std.proofs.Common.{arith}
 use Rattle.std.proofs.lemmas.Bool.{eqb-true, eqb-false, eq-eqb, le-leb, leb-true, and_parts}
-use Rattle.oa_ndr.specs.Forms.{unit, exactly}
-use Rattle.oa_ndr.specs.Reading.{give, choose}
+use Rattle.oa_ndr.specs.promise.Forms.{unit, exactly}
+use Rattle.oa_ndr.specs.promise.Reading.{give}
+use Rattle.oa_ndr.specs.Reading.{choose}
 use Rattle.oa_ndr.proofs.Laws.{Reads, Always, give_reads, none_reads, fail_reads, choose_reads, unit_reads, bytes_reads, referent_reads}
 use Rattle.oa_ndr.proofs.Laws.{bind_reads, with_reads, any_then, made_reads}
-use Rattle.oa_model.specs.Limits.{max_text_bytes}
-use Rattle.oa_wire_text.specs.Texts.{units, text_len, text_units, body, text_bytes, blob, pointee, bstr}
+use Rattle.oa_model.specs.promise.Limits.{max_text_bytes}
+use Rattle.oa_wire_text.specs.promise.Texts.{units, text_len, text_units, text_body, text_bytes, blob, pointee, bstr}
 use Rattle.oa_wire_text.specs.Reading.{body_at, text_at, blob_at, bstr_at}
 
 -- The length of an encoded text is within the limit.
-body_limit : (text : List ℕ) (p : ℕ) (bytes : List ℕ) → body text p bytes → length text ≤ max_text_bytes
+body_limit : (text : List ℕ) (p : ℕ) (bytes : List ℕ) → text_body text p bytes → length text ≤ max_text_bytes
 body_limit text p bytes form = form.second.second.fact
 
-body_reads : (len : ℕ) → len ≤ max_text_bytes → Reads (λ text. length text ≡ len) body (body_at len)
+body_reads : (len : ℕ) → len ≤ max_text_bytes → Reads (λ text. length text ≡ len) text_body (body_at len)
 unfolding body_at
 body_reads len small =
     bind_reads exactly (λ text. text) (bytes_reads len) (λ text h. h) (λ text is_len.
@@ -25,17 +26,20 @@ body_reads len small =
 abbrev Told : ℕ → ℕ → ℕ → Option (List ℕ) → Type 0
 Told maximum len size t = ((Always t × (text_units t ≡ maximum)) × (text_len t ≡ len)) × (text_units t ≡ size)
 
-null_only : (maximum len size : ℕ) → len ≡ 4294967295 → (t : Option (List ℕ)) (p : ℕ) (bytes : List ℕ) → Told maximum len size t → text_bytes t p bytes → (t ≡ None) × (bytes ≡ [])
+null_only : (maximum len size : ℕ) → len ≡ 4294967295 → (t : Option (List ℕ)) (p : ℕ) (bytes : List ℕ) → Told maximum len size t → text_bytes t p bytes
+    → (t ≡ None) × (bytes ≡ [])
 null_only maximum len size is_null None p bytes h form = (refl, form)
 null_only maximum len size is_null (Some text) p bytes h form = absurd (omega (arith, is_null, body_limit text p bytes form, h.0.1))
 
-null_told : (maximum len size : ℕ) → len ≡ 4294967295 → (eqb maximum 0 && eqb size 0) ≡ false → (t : Option (List ℕ)) (p : ℕ) (bytes : List ℕ) → Told maximum len size t → text_bytes t p bytes → ⊥
+null_told : (maximum len size : ℕ) → len ≡ 4294967295 → (eqb maximum 0 && eqb size 0) ≡ false → (t : Option (List ℕ)) (p : ℕ) (bytes : List ℕ)
+    → Told maximum len size t → text_bytes t p bytes → ⊥
 null_told maximum len size is_null test None p bytes h form =
     let e : (eqb maximum 0 && eqb size 0) ≡ true = rw (← h.0.0.1, ← h.1) refl in
     absurd cc
 null_told maximum len size is_null test (Some text) p bytes h form = omega (arith, is_null, body_limit text p bytes form, h.0.1)
 
-some_only : (maximum len size : ℕ) → eqb len 4294967295 ≡ false → (t : Option (List ℕ)) (p : ℕ) (bytes : List ℕ) → Told maximum len size t → text_bytes t p bytes → (text : List ℕ) × (length text ≡ len) × (Some text ≡ t)
+some_only : (maximum len size : ℕ) → eqb len 4294967295 ≡ false → (t : Option (List ℕ)) (p : ℕ) (bytes : List ℕ) → Told maximum len size t
+    → text_bytes t p bytes → (text : List ℕ) × (length text ≡ len) × (Some text ≡ t)
 some_only maximum len size some None p bytes h form = absurd (eqb-false _ _ some (sym h.0.1))
 some_only maximum len size some (Some text) p bytes h form = (text, h.0.1, refl)
 
@@ -58,7 +62,8 @@ blob_reads =
     (λ null. choose_reads (eqb maximum 0 && eqb size 0)
     (λ zero.
     let z = and_parts (eqb maximum 0) (eqb size 0) zero in
-    none_reads None (((tt, sym (eqb-true _ _ z.0)), sym (eqb-true _ _ null)), sym (eqb-true _ _ z.1)) (λ p. refl) (null_only maximum len size (eqb-true _ _ null)))
+    none_reads None (((tt, sym (eqb-true _ _ z.0)), sym (eqb-true _ _ null)), sym (eqb-true _ _ z.1)) (λ p. refl)
+    (null_only maximum len size (eqb-true _ _ null)))
     (λ not_zero. fail_reads (null_told maximum len size (eqb-true _ _ null) not_zero)))
     (λ some. choose_reads (eqb maximum (units len) && eqb size (units len) && leb len max_text_bytes)
     (λ fits.

@@ -1,3 +1,2 @@
-pub mod Texts
 pub mod Reading
-pub mod Canon
+pub mod promise

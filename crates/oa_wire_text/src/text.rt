@@ -2,9 +2,9 @@
 
 ghost use Rattle.std.specs.Prelude.{◌≡◌, ◌≤◌, ◌<◌, OnOk, OnErr, length};
 ghost use Rattle.oa_ndr.specs.Writing.{TakesNothingBack, in_field};
-ghost use Rattle.oa_wire_text.specs.Texts.{units, blob};
+ghost use Rattle.oa_wire_text.specs.promise.Texts.{units, blob};
 ghost use Rattle.oa_wire_text.specs.Reading.{ReadsField, IsFront, OnMemory, text_at, blob_at, bstr_at};
-ghost use Rattle.oa_wire_text.specs.Canon.{put_blob, put_bstr};
+ghost use Rattle.oa_wire_text.specs.promise.Canon.{put_blob, put_bstr};
 
 use crate::fault::StubFault;
 use oa_bstr::Bstr;
@@ -15,14 +15,15 @@ use std::alloc::{AllocError, Global};
 // The value of cBytes for the null text.
 const NULL_TEXT: u32 = 0xFFFF_FFFF;
 
-/// Returns the number of 16-bit units that contain n bytes.
+/// Returns the number of 16-bit units that contain `n` bytes.
 fn units(n: u32) -> u32
     ensures { result ≡ units n }
 {
     n / 2 + n % 2
 }
 
-/// Reads the bytes after the three numbers.
+/// Reads the `len` bytes after the three numbers, and the byte that pads an odd number of them.
+/// Errors: `BadStub` if fewer are left; `Memory`.
 #[tactic(auto, unfolding(oa_ndr::specs::Reading::steps, crate::specs::Reading::body_at, crate::specs::Reading::text_at))]
 fn text(alloc: Global, len: u32, r: &mut Ndr<'_>) -> Result<Bstr, StubFault>
     ensures { ReadsField result r.new (text_at len r.old) }
@@ -32,7 +33,8 @@ fn text(alloc: Global, len: u32, r: &mut Ndr<'_>) -> Result<Bstr, StubFault>
     Bstr::from_bytes(alloc, bytes).map_err(|_| StubFault::Memory)
 }
 
-/// As `read_text`, but after an error the reader may have moved. Reads the maximum count, cBytes, clSize and the bytes.
+/// Reads a text as `read_text` does: the maximum count, cBytes, clSize and the bytes. Errors are
+/// those of `read_text`, but the reader may have moved.
 #[tactic(auto, unfolding(oa_ndr::specs::Reading::steps, crate::specs::Reading::blob_at))]
 pub fn read_blob(alloc: Global, r: &mut Ndr<'_>) -> Result<Bstr, StubFault>
     ensures value { ReadsField result r.new (blob_at r.old) }
@@ -53,9 +55,11 @@ pub fn read_blob(alloc: Global, r: &mut Ndr<'_>) -> Result<Bstr, StubFault>
     Err(StubFault::BadStub)
 }
 
-/// Reads a referent and its pointee (MS-OAUT section 2.2.23); a null referent is the null text. After an error the reader may have moved.
+/// Reads a referent and its pointee (MS-OAUT section 2.2.23); a null referent is the null text.
+/// After an error the reader may have moved.
 ///
-/// Errors: `BadStub` if the bytes end too early or `read_text` refuses the pointee; `Memory` if the allocation of the text fails.
+/// Errors: `BadStub` if the bytes end too early or `read_text` refuses the pointee; `Memory` if the
+/// allocation of the text fails.
 #[tactic(auto, unfolding(oa_ndr::specs::Reading::steps, crate::specs::Reading::bstr_at))]
 pub fn read_bstr(alloc: Global, r: &mut Ndr<'_>) -> Result<Bstr, StubFault>
     ensures value { ReadsField result r.new (bstr_at r.old) }
@@ -67,12 +71,13 @@ pub fn read_bstr(alloc: Global, r: &mut Ndr<'_>) -> Result<Bstr, StubFault>
     Ok(Bstr::null())
 }
 
-/// Reads a text at the reader's offset, as it follows its referent: FLAGGED_WORD_BLOB (MS-OAUT section 2.2.23), from the maximum count on.
-/// After an error the reader has not moved.
+/// Reads a text at the reader's offset, as it follows its referent: FLAGGED_WORD_BLOB (MS-OAUT
+/// section 2.2.23), from the maximum count on. After an error the reader has not moved.
 ///
 /// Errors:
-/// - `BadStub`: the bytes end too early; the maximum count or clSize is not cBytes / 2 rounded up, or not 0 for the null text, whose cBytes
-///   is 0xFFFFFFFF; or the text has more than `MAX_TEXT_BYTES`.
+/// - `BadStub`: the bytes end too early; the maximum count or clSize is not cBytes / 2 rounded up,
+///   or not 0 for the null text, whose cBytes is 0xFFFFFFFF; or the text has more than
+///   `MAX_TEXT_BYTES`.
 /// - `Memory`: the allocation of the text fails. This occurs only if at least 12 bytes are there.
 pub fn read_text(alloc: Global, r: &mut Ndr<'_>) -> Result<Bstr, StubFault>
     ensures exact { IsFront blob result r.old r.new }
@@ -86,7 +91,8 @@ pub fn read_text(alloc: Global, r: &mut Ndr<'_>) -> Result<Bstr, StubFault>
     answer
 }
 
-/// As `write_text`, but if an allocation fails, a part of the text may have been written.
+/// Writes a text as `write_text` does. Err: an allocation fails, and a part of the text may have
+/// been written.
 pub fn add_blob(out: &mut NdrOut, text: &Bstr) -> Result<(), AllocError>
     ensures ok { OnOk result (out.new ≡ in_field (put_blob text.now) out.old) }
     ensures kept { TakesNothingBack out.old out.new }
@@ -105,8 +111,8 @@ pub fn add_blob(out: &mut NdrOut, text: &Bstr) -> Result<(), AllocError>
     out.zeros(len as usize % 2)
 }
 
-/// Writes a text as it follows its referent (see `read_text`): the null text with cBytes 0xFFFFFFFF, an odd last byte followed by a 0. Err:
-/// an allocation fails; the output is unchanged.
+/// Writes a text as it follows its referent (see `read_text`): the null text with cBytes
+/// 0xFFFFFFFF, an odd last byte followed by a 0. Err: an allocation fails; the output is unchanged.
 pub fn write_text(out: &mut NdrOut, text: &Bstr) -> Result<(), AllocError>
     ensures ok { OnOk result (out.new ≡ in_field (put_blob text.now) out.old) }
     ensures err { OnErr result (out.new ≡ out.old) }
@@ -119,7 +125,8 @@ pub fn write_text(out: &mut NdrOut, text: &Bstr) -> Result<(), AllocError>
     Ok(())
 }
 
-/// Writes a referent and its pointee; the null text is a null referent. Err: an allocation fails; a part may have been written.
+/// Writes a referent and its pointee; the null text is a null referent. Err: an allocation fails; a
+/// part may have been written.
 pub fn write_bstr(out: &mut NdrOut, text: &Bstr) -> Result<(), AllocError>
     ensures ok { OnOk result (out.new ≡ in_field (put_bstr text.now) out.old) }
     ensures kept { TakesNothingBack out.old out.new }

@@ -2,10 +2,11 @@
 use Rattle.std.proofs.Common.{◌≡◌, ℕ, zero, suc, List, [], ◌∷◌, length, take, drop, get_or, Some, refl, sym, ap, subst}
 use Rattle.std.specs.Int.{w32, cast_signed}
 use Rattle.byteorder.specs.Endian.{little_number}
-use Rattle.oa_ndr.specs.Reading.{bind, give, choose, bytes_at, align_at, slot_at, unit_at, whole}
+use Rattle.oa_ndr.specs.promise.Reading.{bind, give, bytes_at}
+use Rattle.oa_ndr.specs.Reading.{choose, align_at, slot_at, unit_at, whole}
 use Rattle.oa_variant.specs.declared.scalar.Scalar.TheVariants.{I4}
 use Rattle.oa_variant.specs.declared.variant.Variant.TheVariants.{One}
-use Rattle.oa_wire_array.specs.Reading.{arm_at, arm_of, signed_at, union_at}
+use Rattle.oa_wire_array.specs.Reading.{arm_at, arm_of, integer_at, signed_at, union_at}
 use Rattle.oa_wire_variant.specs.Reading.{scalar_value_at, variant_at}
 
 -- the first n of a list, one by one
@@ -25,7 +26,7 @@ LongReads xs = little_number 2 (take 2 (drop 8 xs)) ≡ 3 → little_number 4 (t
     → whole variant_at xs ≡ Some (One (I4 (cast_signed w32 (little_number 4 (take 4 (drop 20 xs))))))
 
 of_firsts : (xs : List ℕ) → LongReads (firsts 24 xs)
-unfolding variant_at scalar_value_at union_at arm_of arm_at signed_at bind give choose bytes_at align_at slot_at unit_at
+unfolding variant_at scalar_value_at union_at arm_of arm_at integer_at signed_at bind give choose bytes_at align_at slot_at unit_at
 of_firsts xs vt discriminant = rw (vt, discriminant) refl
 
 pub long_reads : (xs : List ℕ) → length xs ≡ 24 → LongReads xs

@@ -4,17 +4,18 @@ use Rattle.std.proofs.Common.{List, [], ◌++◌, length, Result, Ok, Err, Optio
 use Rattle.std.specs.Option.{IsSome}
 use Rattle.std.specs.Result.{IsErrAnd, MatchResult}
 use Rattle.std.proofs.lemmas.Bool.{eqb-true, eq-eqb, ltb-true, ltb-false, and_parts, and_from, or_left, or_right, true≢false}
-use Rattle.oa_ndr.specs.Forms.{unit, referent}
-use Rattle.oa_ndr.specs.Reading.{Cursor, at}
+use Rattle.oa_ndr.specs.promise.Forms.{unit, referent}
+use Rattle.oa_ndr.specs.promise.Reading.{Cursor, at}
 use Rattle.oa_ndr.proofs.Laws.{Reads, Always, made_reads, fail_reads, choose_reads, unit_reads, referent_reads, bind_reads, with_reads}
 use Rattle.oa_ndr.proofs.Laws.{ignored_then, align_then, same_values}
 use Rattle.oa_ndr.proofs.WritingLaws.{Writes, then_writes, with_writes, unit_writes, ignored_writes}
 use Rattle.oa_ndr.proofs.WritingLaws.{align_writes, given_writes, referent_writes}
-use Rattle.oa_model.specs.Types.{vt_of, type_at, sf_type_of}
+use Rattle.oa_model.specs.promise.Types.{vt_of, type_at, sf_type_of}
 use Rattle.oa_model.specs.declared.var_type.VarType.{VarType}
-use Rattle.oa_array.specs.Arrays.{ArrayValue}
-use Rattle.oa_variant.specs.Scalars.{type_of}
-use Rattle.oa_variant.specs.Variants.{IsVariant, unlocked}
+use Rattle.oa_array.specs.promise.Arrays.{ArrayValue}
+use Rattle.oa_variant.specs.promise.Scalars.{type_of}
+use Rattle.oa_variant.specs.Variants.{IsVariant}
+use Rattle.oa_variant.specs.promise.Variants.{unlocked}
 use Rattle.oa_variant.specs.declared.scalar.Scalar.{Scalar}
 use Rattle.oa_variant.specs.declared.variant.Variant.{Variant}
 use Rattle.oa_variant.specs.declared.variant.Variant.TheVariants.{One, Array}
@@ -22,18 +23,19 @@ use Rattle.oa_wire_array.specs.declared.fault.WireFault.{WireFault}
 use Rattle.oa_wire_array.specs.declared.fault.WireFault.TheVariants.{BadStub, BadVarType, Memory}
 use Rattle.oa_wire_text.specs.declared.fault.StubFault.{StubFault}
 use Rattle.oa_wire_text.specs.declared.fault.StubFault.TheVariants as faults
-use Rattle.oa_wire_text.specs.Reading.{ReadsField, OnMemory, Stretch}
+use Rattle.oa_wire_text.specs.Reading.{ReadsField, OnMemory, ReadSpan}
 use Rattle.oa_wire_text.proofs.Memory.{anyhow}
-use Rattle.oa_wire_array.specs.Arrays.{array, IsArrayFront}
+use Rattle.oa_wire_array.specs.promise.Arrays.{array}
+use Rattle.oa_wire_array.specs.Arrays.{IsArrayFront}
 use Rattle.oa_wire_array.specs.ArrayReading.{array_at}
-use Rattle.oa_wire_array.specs.ArrayCanon.{put_array}
+use Rattle.oa_wire_array.specs.promise.ArrayCanon.{put_array}
 use Rattle.oa_wire_array.proofs.ScalarLaws.{union_reads, type_at_vt, vt_from_type_at, same_type}
 use Rattle.oa_wire_array.proofs.ArrayLaws.{array_reads, given_part}
 use Rattle.oa_wire_array.proofs.Written.{scalar_writes, vt_small}
 use Rattle.oa_wire_array.proofs.ArrayWritten.{array_writes}
-use Rattle.oa_wire_variant.specs.Variants.{value_vt, array_union, value_union, variant}
+use Rattle.oa_wire_variant.specs.promise.Variants.{value_vt, array_union, value_union, variant}
 use Rattle.oa_wire_variant.specs.Reading.{scalar_value_at, array_union_at, array_value_at, variant_at}
-use Rattle.oa_wire_variant.specs.Canon.{array_len, put_array_head, put_variant, canon}
+use Rattle.oa_wire_variant.specs.promise.Canon.{array_len, put_array_head, put_variant, canon}
 
 scalar_value_reads : (vt : ℕ) → vt < 8192 → Reads (λ v. value_vt v ≡ vt) value_union (scalar_value_at vt)
 unfolding scalar_value_at
@@ -116,9 +118,11 @@ pub variant_writes : (v : Variant) → IsVariant v → Writes (variant (unlocked
 variant_writes (One s) h = scalar_writes s h
 variant_writes (Array a) h =
     let small = vt_small a.elem in
-    then_writes (align_writes 8) (then_writes (ignored_writes 4 ((array_len a + 7) / 8 % 2 ^ 32)) (then_writes (ignored_writes 4 0) (then_writes (unit_writes 2 (vt_of a.elem + 8192) (omega (arith, small)))
+    then_writes (align_writes 8) (then_writes (ignored_writes 4 ((array_len a + 7) / 8 % 2 ^ 32))
+    (then_writes (ignored_writes 4 0) (then_writes (unit_writes 2 (vt_of a.elem + 8192) (omega (arith, small)))
     (then_writes (ignored_writes 2 0) (then_writes (ignored_writes 2 0) (then_writes (ignored_writes 2 0)
-    (with_writes 8192 (then_writes (unit_writes 4 8192 (omega arith)) (then_writes (given_writes (inl refl)) (then_writes (referent_writes true) (array_writes a h.0 h.1 h.2)))))))))))
+    (with_writes 8192 (then_writes (unit_writes 4 8192 (omega arith))
+    (then_writes (given_writes (inl refl)) (then_writes (referent_writes true) (array_writes a h.0 h.1 h.2)))))))))))
 
 -- The result of `read_array` is that of the decoder.
 abbrev AsRead : Result (ArrayValue Scalar) WireFault → Cursor → Option (ArrayValue Scalar × Cursor) → Type 0
@@ -127,7 +131,7 @@ AsRead (Err BadStub) new read = read ≡ None
 AsRead (Err BadVarType) new read = read ≡ None
 AsRead (Err Memory) new read = Unit {0}
 
-no_array : (t : VarType) (old : Cursor) → ((a : ArrayValue Scalar) (end : Cursor) → a.elem ≡ t → Stretch (array a) old end → ⊥) → array_at t old ≡ None
+no_array : (t : VarType) (old : Cursor) → ((a : ArrayValue Scalar) (end : Cursor) → a.elem ≡ t → ReadSpan (array a) old end → ⊥) → array_at t old ≡ None
 no_array t old never = nothing_read (array_at t old) refl
   where
     nothing_read : (o : Option (ArrayValue Scalar × Cursor)) → array_at t old ≡ o → o ≡ None
@@ -136,7 +140,7 @@ no_array t old never = nothing_read (array_at t old) refl
         let one = (array_reads t).takes old.position old.rest y.0 y.1 e in
         absurd (never y.0 y.1 one.0 (record { text = one.1.text; parts = one.1.parts; place = one.1.place; form = one.1.form }))
 
-untyped : (t : VarType) (a : ArrayValue Scalar) (old end : Cursor) → sf_type_of t ≡ None → a.elem ≡ t → Stretch (array a) old end → ⊥
+untyped : (t : VarType) (a : ArrayValue Scalar) (old end : Cursor) → sf_type_of t ≡ None → a.elem ≡ t → ReadSpan (array a) old end → ⊥
 untyped t a old end none e stretch =
     let typed : is_some (sf_type_of a.elem) ≡ true = stretch.form.first.fact.0.shape.typed in
     let no : is_some (sf_type_of a.elem) ≡ false = ap (λ (j : VarType). is_some (sf_type_of j)) e ∙ ap is_some none in
@@ -145,7 +149,8 @@ untyped t a old end none e stretch =
 abbrev done : ArrayValue Scalar → Cursor → Option (ArrayValue Scalar × Cursor)
 done a s = Some (a, s)
 
-array_answers : (t : VarType) (result : Result (ArrayValue Scalar) WireFault) (old new : Cursor) → IsArrayFront t result old new → AsRead result new (array_at t old)
+array_answers : (t : VarType) (result : Result (ArrayValue Scalar) WireFault) (old new : Cursor) → IsArrayFront t result old new
+    → AsRead result new (array_at t old)
 array_answers t (Ok a) old new h =
     let s = h.1 in
     let again = (array_reads t).again old.position s.text new.rest a h.0 s.form in
@@ -157,9 +162,11 @@ array_answers t (Err BadVarType) old new h = no_array t old (λ a end e stretch.
 array_answers t (Err Memory) old new h = tt
 
 -- The result made of it: the array, or the conversion of each error.
-pub array_told : (P : WireFault → StubFault → Type 0) (t : VarType) (from : Result (ArrayValue Scalar) WireFault) (to : Result (ArrayValue Scalar) StubFault) (old new : Cursor)
+pub array_told : (P : WireFault → StubFault → Type 0) (t : VarType) (from : Result (ArrayValue Scalar) WireFault) (to : Result (ArrayValue Scalar) StubFault)
+    (old new : Cursor)
     → IsArrayFront t from old new → MatchResult from (λ a. to ≡ Ok a) (λ e. IsErrAnd to (P e))
-    → ((f : StubFault) → P BadStub f → f ≡ faults.BadStub) → ((f : StubFault) → P BadVarType f → f ≡ faults.BadStub) → ((f : StubFault) → P Memory f → f ≡ faults.Memory)
+    → ((f : StubFault) → P BadStub f → f ≡ faults.BadStub) → ((f : StubFault) → P BadVarType f → f ≡ faults.BadStub)
+    → ((f : StubFault) → P Memory f → f ≡ faults.Memory)
     → ReadsField to new (array_at t old)
 array_told P t (Ok a) to old new h is stub type memory = rw is (array_answers t (Ok a) old new h)
 array_told P t (Err e) (Ok a) old new h is stub type memory = absurd is
@@ -168,7 +175,8 @@ array_told P t (Err BadVarType) (Err f) old new h is stub type memory = rw (type
 array_told P t (Err Memory) (Err f) old new h is stub type memory = rw (memory f is) tt
 
 -- `Memory` is the result only of `Memory`.
-pub array_starved : (P : WireFault → StubFault → Type 0) (t : VarType) (from : Result (ArrayValue Scalar) WireFault) (to : Result (ArrayValue Scalar) StubFault) (old new : Cursor)
+pub array_starved : (P : WireFault → StubFault → Type 0) (t : VarType) (from : Result (ArrayValue Scalar) WireFault) (to : Result (ArrayValue Scalar) StubFault)
+    (old new : Cursor)
     → IsArrayFront t from old new → MatchResult from (λ a. to ≡ Ok a) (λ e. IsErrAnd to (P e))
     → ((f : StubFault) → P BadStub f → f ≡ faults.BadStub) → ((f : StubFault) → P BadVarType f → f ≡ faults.BadStub)
     → OnMemory to (IsSome (sf_type_of t) × (32 ≤ length old.rest))

@@ -1,3 +1,4 @@
 pub mod Variants
 pub mod Reading
 pub mod Canon
+pub mod promise

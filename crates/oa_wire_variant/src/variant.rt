@@ -1,14 +1,15 @@
 //! Decodes and encodes whole fields.
 
 ghost use Rattle.std.specs.Prelude.{◌≡◌, ◌++◌, ◌-◌, ◌<◌, ◌≤◌, ◌^◌, length, IfSome, IsSome, OnOk, OnErr, Some};
-ghost use Rattle.oa_model.specs.Invoke.{vt_array};
-ghost use Rattle.oa_model.specs.Types.{type_at, sf_type_of};
+ghost use Rattle.oa_model.specs.promise.Invoke.{vt_array};
+ghost use Rattle.oa_model.specs.promise.Types.{type_at, sf_type_of};
 ghost use Rattle.oa_ndr.specs.Reading.{whole};
 ghost use Rattle.oa_ndr.specs.Writing.{in_field};
 ghost use Rattle.oa_wire_text.specs.Reading.{ReadsField, OnMemory, from_multiple};
 ghost use Rattle.oa_wire_array.specs.Reading.{union_at};
 ghost use Rattle.oa_wire_array.specs.ArrayReading.{array_at};
-ghost use Rattle.oa_wire_variant.specs.Variants.{ReadsVariant, IsArrayVt, TakesMemory, is_value_type, field_fault};
+ghost use Rattle.oa_wire_variant.specs.Variants.{ReadsVariant, IsArrayVt, TakesMemory};
+ghost use Rattle.oa_wire_variant.specs.promise.Variants.{is_value_type, field_fault};
 ghost use Rattle.oa_wire_variant.specs.Reading.{
   ReadsWholeField,
   scalar_value_at,
@@ -18,7 +19,8 @@ ghost use Rattle.oa_wire_variant.specs.Reading.{
 };
 ghost use Rattle.oa_variant.specs.declared.scalar.Scalar.TheVariants.{I4};
 ghost use Rattle.oa_variant.specs.declared.variant.Variant.TheVariants.{One};
-ghost use Rattle.oa_wire_variant.specs.Canon.{canon, put_variant, put_array_head, put_sized_array, IsArrayLen};
+ghost use Rattle.oa_wire_variant.specs.promise.Canon.{canon, put_variant, put_array_head, put_sized_array};
+ghost use Rattle.oa_wire_variant.specs.Canon.{IsArrayLen};
 
 use byteorder::{ByteOrder, LittleEndian};
 use oa_array::SafeArray;
@@ -38,7 +40,7 @@ const LONG_BYTES: usize = 24;
 // The offset of the second referent of an array.
 const SECOND_REFERENT: usize = 24;
 
-/// Reads the union of a scalar, after its vt.
+/// Reads the union of a scalar, after its vt. Errors: `BadStub`, `Memory`.
 fn union(alloc: Global, vt: u16, r: &mut Ndr<'_>) -> Result<Scalar, StubFault>
     ensures value { ReadsField result r.new (union_at vt r.old) }
     ensures memory { OnMemory result ((vt ≡ 8) × (20 ≤ length r.old.rest)) }
@@ -46,7 +48,8 @@ fn union(alloc: Global, vt: u16, r: &mut Ndr<'_>) -> Result<Scalar, StubFault>
     read_union(alloc, vt, r)
 }
 
-/// Reads an array from its second referent on.
+/// Reads an array from its second referent on. Errors: `BadStub`, also for a type of which there
+/// are no arrays; `Memory`.
 fn array(alloc: Global, elem: VarType, r: &mut Ndr<'_>) -> Result<SafeArray<Scalar>, StubFault>
     ensures value { ReadsField result r.new (array_at elem r.old) }
     ensures memory { OnMemory result (IsSome (sf_type_of elem) × (32 ≤ length r.old.rest)) }
@@ -57,7 +60,7 @@ fn array(alloc: Global, elem: VarType, r: &mut Ndr<'_>) -> Result<SafeArray<Scal
     })
 }
 
-/// Reads a scalar, after its vt.
+/// Reads a scalar, after its vt. Errors: `BadStub`, `Memory`.
 #[tactic(auto, unfolding(oa_ndr::specs::Reading::steps, crate::specs::Reading::scalar_value_at))]
 fn scalar_value(alloc: Global, vt: u16, r: &mut Ndr<'_>) -> Result<Variant, StubFault>
     ensures value { ReadsField result r.new (scalar_value_at vt r.old) }
@@ -66,7 +69,7 @@ fn scalar_value(alloc: Global, vt: u16, r: &mut Ndr<'_>) -> Result<Variant, Stub
     Ok(Variant::One(union(alloc, vt, r)?))
 }
 
-/// Reads the discriminant, the first referent and the array.
+/// Reads the discriminant, the first referent and the array. Errors: `BadStub`, `Memory`.
 #[tactic(auto, unfolding(oa_ndr::specs::Reading::steps, crate::specs::Reading::array_union_at))]
 fn array_union(
     alloc: Global,
@@ -85,7 +88,7 @@ fn array_union(
     Err(StubFault::BadStub)
 }
 
-/// Reads an array, after its vt.
+/// Reads an array, after its vt. Errors: `BadStub`, `Memory`.
 #[tactic(auto, unfolding(oa_ndr::specs::Reading::steps, crate::specs::Reading::array_value_at))]
 fn array_value(alloc: Global, vt: u16, r: &mut Ndr<'_>) -> Result<Variant, StubFault>
     requires { vt_array ≤ vt }
@@ -98,7 +101,7 @@ fn array_value(alloc: Global, vt: u16, r: &mut Ndr<'_>) -> Result<Variant, StubF
     }
 }
 
-/// Reads a value.
+/// Reads a value. Errors: `BadStub`, `Memory`.
 #[tactic(auto, unfolding(oa_ndr::specs::Reading::steps, crate::specs::Reading::variant_at))]
 fn variant(alloc: Global, r: &mut Ndr<'_>) -> Result<Variant, StubFault>
     ensures value { ReadsField result r.new (variant_at r.old) }
@@ -131,7 +134,8 @@ fn long(bytes: &[u8]) -> Option<i32>
     None
 }
 
-/// Reads a value that uses all of the bytes.
+/// Reads a value that uses all of the bytes. Errors: `BadStub`, also if some are left over;
+/// `Memory`.
 fn whole(alloc: Global, bytes: &[u8]) -> Result<Variant, StubFault>
     ensures value { ReadsWholeField result (whole variant_at bytes.now) }
     ensures memory { OnMemory result (TakesMemory bytes.now) }
@@ -172,14 +176,17 @@ fn field_fault(bytes: &[u8]) -> WireFault
     }
 }
 
-/// Decodes the value that all of the bytes encode (MS-OAUT section 2.2.29): a scalar, or an array, which has no locks.
+/// Decodes the value that all of the bytes encode (MS-OAUT section 2.2.29): a scalar, or an array,
+/// which has no locks.
 ///
 /// Errors:
-/// - `BadVarType`: they encode no value, are at least 20 bytes, and no value has the vt at offset 8: it is outside the types of `VarType`,
-///   it is VARIANT, or it is VT_ARRAY with a type of which there are no arrays.
+/// - `BadVarType`: they encode no value, are at least 20 bytes, and no value has the vt at offset
+///   8: it is outside the types of `VarType`, it is VARIANT, or it is VT_ARRAY with a type of which
+///   there are no arrays.
 /// - `BadStub`: they encode no value for another reason; for example, some bytes are left over.
-/// - `Memory`: the allocation of the value fails. Either the vt is that of BSTR, and the field has at least the 36 bytes before the text;
-///   or the vt is VT_ARRAY with a type of which there are arrays, and the field has at least the 56 bytes before the bounds.
+/// - `Memory`: the allocation of the value fails. Either the vt is that of BSTR, and the field has
+///   at least the 36 bytes before the text; or the vt is VT_ARRAY with a type of which there are
+///   arrays, and the field has at least the 56 bytes before the bounds.
 #[inline(always)]
 pub fn read_variant(alloc: Global, bytes: &[u8]) -> Result<Variant, WireFault>
     ensures exact { ReadsVariant bytes.now result }
@@ -190,7 +197,7 @@ pub fn read_variant(alloc: Global, bytes: &[u8]) -> Result<Variant, WireFault>
     read_other(alloc, bytes)
 }
 
-/// As `read_variant`, for any field.
+/// Decodes any field as `read_variant` does, with the same errors.
 fn read_other(alloc: Global, bytes: &[u8]) -> Result<Variant, WireFault>
     ensures exact { ReadsVariant bytes.now result }
 {
@@ -200,8 +207,9 @@ fn read_other(alloc: Global, bytes: &[u8]) -> Result<Variant, WireFault>
     })
 }
 
-/// Returns the number of bytes that `write_variant` appends. For an array these are the bytes that clSize counts.
-#[tactic(auto, unfolding(oa_wire_array::specs::Canon::scalar_len))]
+/// Returns the number of bytes that `write_variant` appends. For an array these are the bytes that
+/// clSize counts.
+#[tactic(auto, unfolding(oa_wire_array::specs::promise::Canon::scalar_len))]
 fn measure(value: &Variant) -> usize
     ensures value { result ≡ length (canon value.now) }
     ensures array { IsArrayLen result value.now }
@@ -221,7 +229,7 @@ pub fn wire_len(value: &Variant) -> usize
     measure(value)
 }
 
-/// Writes the bytes before the second referent of an array.
+/// Writes the bytes before the second referent of an array. Err: an allocation fails.
 fn write_array_head(out: &mut NdrOut, size: u32, vt: u16) -> Result<(), AllocError>
     ensures ok { OnOk result (out.new ≡ in_field (put_array_head size vt) out.old) }
     ensures before { out.new.before ≡ out.old.before }
@@ -231,7 +239,7 @@ fn write_array_head(out: &mut NdrOut, size: u32, vt: u16) -> Result<(), AllocErr
     out.referent(true)
 }
 
-/// Writes an array with the given clSize.
+/// Writes an array with the given clSize. Err: an allocation fails.
 fn write_sized_array(
     out: &mut NdrOut,
     size: u32,
@@ -245,7 +253,8 @@ fn write_sized_array(
     write_array(out, array)
 }
 
-/// Writes the bytes of a value; `len` is the length of the encoding of an array.
+/// Writes the bytes of a value; `len` is the length in bytes of the encoding of an array. Err: an
+/// allocation fails.
 fn write_field(out: &mut NdrOut, value: &Variant, len: usize) -> Result<(), AllocError>
     requires counted { IsArrayLen len value.now }
     requires small { len < 2 ^ 40 }
@@ -261,9 +270,10 @@ fn write_field(out: &mut NdrOut, value: &Variant, len: usize) -> Result<(), Allo
     }
 }
 
-/// Appends the encoding of a value to `out`, as a field of its own: its offsets count from the end of `out`. In this encoding reserved
-/// numbers and padding are 0, a referent is 0x00020000, and clSize counts units of 8 bytes. Locks are not encoded. Err: an allocation
-/// fails; `out` is unchanged.
+/// Appends the encoding of a value to `out`, as a field of its own: its offsets count from the end
+/// of `out`. In this encoding reserved numbers and padding are 0, a referent is 0x00020000, and
+/// clSize counts units of 8 bytes. Locks are not encoded. Err: an allocation fails; `out` is
+/// unchanged.
 pub fn write_variant(value: &Variant, out: &mut Vec<u8>) -> Result<(), AllocError>
     ensures ok { OnOk result (out.new.items ≡ out.old.items ++ canon value.now) }
     ensures err { OnErr result (out.new.items ≡ out.old.items) }

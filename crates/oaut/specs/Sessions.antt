@@ -1,28 +1,29 @@
 -- The sessions of the program over standard input and output, of one client and of many. (This project's choice.)
 use Rattle.std.specs.Prelude.{◌≡◌, ◌⊎◌, ℕ, Bool, true, false, List, [], Result, Ok, Err, max, min}
-use Rattle.oa_checks.specs.IsLibrary.{IsLibrary}
+use Rattle.oa_sema.specs.promise.IsLibrary.{IsLibrary}
 use Rattle.oa_commands.specs.Statuses.{IsOfLibrary, IsOfTaking, of_end, of_open, of_session_end}
 use Rattle.oa_commands.specs.declared.fault.Fault.{Fault}
 use Rattle.oa_commands.specs.declared.fault.Fault.TheVariants as faults
-use Rattle.oa_decision.specs.States.{State}
+use Rattle.oa_decision.specs.promise.States.{State}
 use Rattle.oa_disk.specs.After.{BeginsHonest}
 use Rattle.oa_disk.specs.declared.disk.Disk.{Ghosts}
 use Rattle.oa_frame.specs.Beginnings.{AreUnbroken}
-use Rattle.oa_frame.specs.Framings.{Frames, hex_lines, records}
+use Rattle.oa_frame.specs.promise.Framings.{Frames, hex_lines, records}
 use Rattle.oa_frame.specs.declared.session.Served.{Served}
-use Rattle.oa_idl.specs.Trees.{TreeValue}
+use Rattle.oa_idl.specs.promise.Trees.{TreeValue}
 use Rattle.oa_journal.specs.Shapes.{default_bank_bytes}
 use Rattle.oa_model.specs.Limits.{max_group}
-use Rattle.oa_server.specs.Openings.{IsOpened}
-use Rattle.oa_server.specs.SharedSessions.{HasServedClients}
-use Rattle.oa_server.specs.Storages.{InMemory, OverStore, bank_of}
-use Rattle.oa_server.specs.Talks.{HasTalked, HasTalkedInMemory}
-use Rattle.oa_server.specs.declared.engine.Engine.{Engine}
+use Rattle.oa_server.specs.promise.ServerMachine.{IsOpened}
+use Rattle.oa_server.specs.promise.SharedSessions.{IsSharedSession}
+use Rattle.oa_server.specs.Storages.{InMemory, bank_bytes_of}
+use Rattle.oa_server.specs.promise.Storages.{OverStore}
+use Rattle.oa_server.specs.Talks.{HasTalkedInMemory, IsStoreSession}
+use Rattle.oa_server.specs.declared.engine.ServerState.{ServerState}
 use Rattle.oa_server.specs.declared.storage.Storage.{Storage}
-use Rattle.oa_share.specs.declared.session_end.SessionEnd.{SessionEnd}
+use Rattle.oa_mux.specs.declared.session_end.SessionEnd.{SessionEnd}
 use Rattle.oa_store.specs.declared.fault.OpenFault.{OpenFault}
-use Rattle.oa_stream.specs.Sink.{Output}
-use Rattle.oa_stream.specs.Source.{Input}
+use Rattle.oa_stream.specs.promise.Sink.{Output}
+use Rattle.oa_stream.specs.promise.Source.{Input}
 use Rattle.oa_table.specs.Tables.{first_table}
 
 -- ---- over a reader and a writer
@@ -33,7 +34,7 @@ Streams = Input → Input → Output → Output → Type 0
 
 -- The session was held over a reader and a writer of these types: neither had failed, the reader had not been called,
 -- and the writer kept nothing back.
-pub record IsOver {R W : Type 0} (input : R → Input) (output : W → Output) (holds : Streams) : Type 0 where
+pub record RanOverStreams {R W : Type 0} (input : R → Input) (output : W → Output) (holds : Streams) : Type 0 where
   pub reader : R
   pub reader' : R
   pub writer : W
@@ -45,17 +46,17 @@ pub record IsOver {R W : Type 0} (input : R → Input) (output : W → Output) (
 
 -- a session of one client in this framing; the result reports how it ended
 pub record ServesClient {D : Type 0} {g : Ghosts D} (f : Frames) (size : ℕ) (result : Result (Unit {0}) Fault)
-    (old new : Engine D g) (input input' : Input) (out out' : Output) : Type 0 where
+    (old new : ServerState D g) (input input' : Input) (out out' : Output) : Type 0 where
   pub served : Served
-  pub talked : HasTalked f input input' out out' size old new served
+  pub talked : IsStoreSession f input input' out out' size old new served
   pub memory : InMemory old.storage → HasTalkedInMemory f input input' out out' old.host new.host served
   pub told : result ≡ of_end served.why
 
 -- a session of many clients; the result reports how it ended
-pub record ServesClients {D : Type 0} {g : Ghosts D} (size : ℕ) (result : Result (Unit {0}) Fault)
-    (old new : Engine D g) (input input' : Input) (out out' : Output) : Type 0 where
+pub record ServesManyClients {D : Type 0} {g : Ghosts D} (size : ℕ) (result : Result (Unit {0}) Fault)
+    (old new : ServerState D g) (input input' : Input) (out out' : Output) : Type 0 where
   pub why : SessionEnd
-  pub served : HasServedClients input input' out out' size old new why
+  pub served : IsSharedSession input input' out out' size old new why
   pub told : result ≡ of_session_end why
 
 -- the framing of `--hex`, and the one without it
@@ -67,12 +68,12 @@ framing_of false = records
 abbrev pub Holds : {R W E : Type 0} → (R → Input) → (W → Output) → (E → E → Streams) → Result (Unit {0}) Fault → E → E
     → Type 0
 Holds input output serves result old new =
-    IsOver input output (serves old new) ⊎ ((result ≡ Err faults.Memory) × (new ≡ old))
+    RanOverStreams input output (serves old new) ⊎ ((result ≡ Err faults.Memory) × (new ≡ old))
 
 -- ---- a command
 
 -- a session from an engine with this property
-pub record HoldsFrom {E : Type 0} (beginning : E → Type 0) (session : E → E → Type 0) : Type 0 where
+pub record IsSessionFrom {E : Type 0} (beginning : E → Type 0) (session : E → E → Type 0) : Type 0 where
   pub old : E
   pub new : E
   pub begins : beginning old
@@ -98,17 +99,17 @@ pub record BeginsInMemory {D : Type 0} {g : Ghosts D} (storage : Storage D g) (s
   pub state_is : state ≡ record { bank = default_bank_bytes; library = library; table = first_table }
 
 -- a session that `play` runs, with its faults of files
-abbrev pub HasPlayed : {D R W : Type 0} → Ghosts D → (R → Input) → (W → Output) → Bool → Result (Unit {0}) Fault
+abbrev pub IsPlaySession : {D R W : Type 0} → Ghosts D → (R → Input) → (W → Output) → Bool → Result (Unit {0}) Fault
     → Type 0
-HasPlayed {D} g input output hex result =
-    Commands IsOfNoLibrary (HoldsFrom {E = Engine D g} (λ e. BeginsInMemory e.storage e.host)
+IsPlaySession {D} g input output hex result =
+    Commands IsOfNoLibrary (IsSessionFrom {E = ServerState D g} (λ e. BeginsInMemory e.storage e.host)
     (Holds input output (ServesClient (framing_of hex) 1 result) result)) result
 
 -- a session that `play --shared` runs, with its faults of files
 abbrev pub HasPlayedShared : {D R W : Type 0} → Ghosts D → (R → Input) → (W → Output) → Result (Unit {0}) Fault → Type 0
 HasPlayedShared {D} g input output result =
-    Commands IsOfNoLibrary (HoldsFrom {E = Engine D g} (λ e. BeginsInMemory e.storage e.host)
-    (Holds input output (ServesClients 1 result) result)) result
+    Commands IsOfNoLibrary (IsSessionFrom {E = ServerState D g} (λ e. BeginsInMemory e.storage e.host)
+    (Holds input output (ServesManyClients 1 result) result)) result
 
 -- ---- over a store
 
@@ -126,14 +127,14 @@ pub record OpensStore {D : Type 0} (g : Ghosts D) (storage : Storage D g) (state
   pub is : IsLibrary text state.library
   pub disk : D
   pub begins : BeginsHonest g disk
-  pub bank : state.bank ≡ bank_of storage
+  pub bank : state.bank ≡ bank_bytes_of storage
   pub over : OverStore storage (λ store. IsOpened g disk state.library store state.table)
 
 -- a session that `serve` runs, with its faults of files
 abbrev pub HasServed : {D R W : Type 0} → Ghosts D → (R → Input) → (W → Output) → Bool → ℕ → Result (Unit {0}) Fault
     → Type 0
 HasServed {D} g input output hex size result =
-    Commands (λ fault. (fault ≡ faults.TwoInputs) ⊎ IsOfNoStore fault) (HoldsFrom {E = Engine D g}
+    Commands (λ fault. (fault ≡ faults.TwoInputs) ⊎ IsOfNoStore fault) (IsSessionFrom {E = ServerState D g}
     (λ e. OpensStore g e.storage e.host)
     (Holds input output (ServesClient (framing_of hex) size result) result)) result
 
@@ -141,6 +142,6 @@ HasServed {D} g input output hex size result =
 abbrev pub HasServedShared : {D R W : Type 0} → Ghosts D → (R → Input) → (W → Output) → ℕ → Result (Unit {0}) Fault
     → Type 0
 HasServedShared {D} g input output size result =
-    Commands (λ fault. (fault ≡ faults.TwoInputs) ⊎ IsOfNoStore fault) (HoldsFrom {E = Engine D g}
+    Commands (λ fault. (fault ≡ faults.TwoInputs) ⊎ IsOfNoStore fault) (IsSessionFrom {E = ServerState D g}
     (λ e. OpensStore g e.storage e.host)
-    (Holds input output (ServesClients size result) result)) result
+    (Holds input output (ServesManyClients size result) result)) result

@@ -5,12 +5,12 @@ use oa_journal::{LEAST_BANK_BYTES, MOST_BANK_BYTES};
 use oa_model::MAX_GROUP;
 use std::alloc::{AllocError, Global};
 
-/// A required word.
+/// Returns a required word.
 fn word<'a>(alloc: Global, name: &'a str, help: &'a str) -> Arg<'a> {
     Arg::new(alloc, name).required(true).help(help)
 }
 
-/// The file of a library.
+/// Returns the word for the file of a library.
 fn library<'a>(alloc: Global) -> Arg<'a> {
     word(
         alloc,
@@ -19,7 +19,7 @@ fn library<'a>(alloc: Global) -> Arg<'a> {
     )
 }
 
-/// The file of a library, or standard input.
+/// Returns the word for the file of a library, or standard input.
 fn library_or_input<'a>(alloc: Global) -> Arg<'a> {
     word(
         alloc,
@@ -28,7 +28,7 @@ fn library_or_input<'a>(alloc: Global) -> Arg<'a> {
     )
 }
 
-/// An optional word without a value.
+/// Returns an option without a value.
 fn flag<'a>(alloc: Global, name: &'a str, help: &'a str) -> Arg<'a> {
     Arg::new(alloc, name)
         .long(name)
@@ -36,12 +36,12 @@ fn flag<'a>(alloc: Global, name: &'a str, help: &'a str) -> Arg<'a> {
         .help(help)
 }
 
-/// A command without arguments.
+/// Returns a command without arguments.
 fn named<'a>(alloc: Global, name: &'a str, about: &'a str, more: &'a str) -> Command<'a> {
     Command::new(alloc, name).about(about).after_help(more)
 }
 
-/// The option for lines of hexadecimal digits.
+/// Returns the option for lines of hexadecimal digits.
 fn hex<'a>(alloc: Global) -> Arg<'a> {
     flag(
         alloc,
@@ -50,7 +50,8 @@ fn hex<'a>(alloc: Global) -> Arg<'a> {
     )
 }
 
-/// The option for sessions of many clients, whose requests are records.
+/// Returns the option for sessions of many clients, whose requests are records. Err: an allocation
+/// failed.
 fn shared<'a>(alloc: Global) -> Result<Arg<'a>, AllocError> {
     flag(
         alloc,
@@ -60,6 +61,7 @@ fn shared<'a>(alloc: Global) -> Result<Arg<'a>, AllocError> {
     .conflicts_with("hex")
 }
 
+/// Returns the command `play`. Err: an allocation failed.
 fn play<'a>(alloc: Global) -> Result<Command<'a>, AllocError> {
     named(
         alloc,
@@ -72,7 +74,7 @@ fn play<'a>(alloc: Global) -> Result<Command<'a>, AllocError> {
     .arg(shared(alloc)?)
 }
 
-/// The option for the place of a syntax error.
+/// Returns the option for the place of a syntax error.
 fn place<'a>(alloc: Global) -> Arg<'a> {
     flag(
         alloc,
@@ -81,6 +83,7 @@ fn place<'a>(alloc: Global) -> Arg<'a> {
     )
 }
 
+/// Returns the command `check`. Err: an allocation failed.
 fn check<'a>(alloc: Global) -> Result<Command<'a>, AllocError> {
     named(
         alloc,
@@ -92,6 +95,7 @@ fn check<'a>(alloc: Global) -> Result<Command<'a>, AllocError> {
     .arg(place(alloc))
 }
 
+/// Returns the command `format`. Err: an allocation failed.
 fn format<'a>(alloc: Global) -> Result<Command<'a>, AllocError> {
     named(
         alloc,
@@ -104,6 +108,7 @@ fn format<'a>(alloc: Global) -> Result<Command<'a>, AllocError> {
     .arg(bank(alloc))
 }
 
+/// Returns the command `upgrade`. Err: an allocation failed.
 fn upgrade<'a>(alloc: Global) -> Result<Command<'a>, AllocError> {
     named(
         alloc,
@@ -115,7 +120,7 @@ fn upgrade<'a>(alloc: Global) -> Result<Command<'a>, AllocError> {
     .arg(bank(alloc))
 }
 
-/// The option for the size of a bank.
+/// Returns the option for the size of a bank in bytes.
 fn bank<'a>(alloc: Global) -> Arg<'a> {
     Arg::new(alloc, "bank")
         .long("bank")
@@ -129,7 +134,7 @@ fn bank<'a>(alloc: Global) -> Arg<'a> {
         )
 }
 
-/// The option for the number of requests that are committed together.
+/// Returns the option for the number of requests that are committed together.
 fn group<'a>(alloc: Global) -> Arg<'a> {
     Arg::new(alloc, "group")
         .long("group")
@@ -141,6 +146,7 @@ fn group<'a>(alloc: Global) -> Arg<'a> {
         )
 }
 
+/// Returns the command `serve`. Err: an allocation failed.
 fn serve<'a>(alloc: Global) -> Result<Command<'a>, AllocError> {
     named(
         alloc,
@@ -155,6 +161,7 @@ fn serve<'a>(alloc: Global) -> Result<Command<'a>, AllocError> {
     .arg(shared(alloc)?)
 }
 
+/// Returns the command `dump`. Err: an allocation failed.
 fn dump<'a>(alloc: Global) -> Result<Command<'a>, AllocError> {
     named(
         alloc,
@@ -166,7 +173,7 @@ fn dump<'a>(alloc: Global) -> Result<Command<'a>, AllocError> {
     .arg(kept_library(alloc))
 }
 
-/// The option for the library of a store instead of its objects.
+/// Returns the option for the library of a store instead of its objects.
 fn kept_library<'a>(alloc: Global) -> Arg<'a> {
     flag(
         alloc,
@@ -175,7 +182,7 @@ fn kept_library<'a>(alloc: Global) -> Arg<'a> {
     )
 }
 
-/// Adds a subcommand to a command.
+/// Adds a subcommand to a command. Err: an allocation failed.
 fn with<'a>(
     command: Command<'a>,
     part: Result<Command<'a>, AllocError>,
@@ -206,8 +213,8 @@ pub(crate) fn command<'a>(alloc: Global) -> Result<Command<'a>, AllocError> {
     with(command, check(alloc))
 }
 
-/// Returns the error of a command line whose number of bytes or requests has a sign, which std's parser of numbers
-/// accepts.
+/// Returns the error of a command line whose number of bytes or requests has a sign, which std's
+/// parser of numbers accepts; None if it has none. Err: an allocation failed.
 pub(crate) fn signed_number(
     alloc: Global,
     matches: &ArgMatches,

@@ -1,7 +1,7 @@
 //! The program: a command line over the server.
 //!
-//! Contract: safe and total; a session meets the contract of its command (`specs/Sessions`). What it prints, its
-//! statuses and its calls of the system are tested (`tests/`).
+//! Contract: safe and total; a session meets the contract of its command (`specs/Sessions`). What
+//! it prints, its statuses and its calls of the system are tested (`tests/`).
 //!
 //! Used by no crate; the clients of `clients/` start it, or reach it over a socket.
 #![tactic(auto)]
@@ -14,14 +14,15 @@ mod session;
 use clap::ArgMatches;
 use clap::error::ErrorKind;
 use oa_commands::{
-    Fault, StandardStreams, format_store, tell, upgrade_store, write_dump, write_text,
+    Fault, StandardStreams, format_store, tell, upgrade_store, write_dump, write_library_text,
 };
 use oa_journal::DEFAULT_BANK_BYTES;
-use oa_stream::{Behind, Outlet};
+use oa_stream::{BufferedSink, StdSink};
 use std::alloc::Global;
 use std::process::ExitCode;
 use std::{env, io};
 
+/// Executes the command line, and exits with its status. A fault is one line on standard error.
 fn main(rt: HostRuntime) -> ExitCode {
     match run(&rt) {
         Ok(code) => code,
@@ -33,7 +34,7 @@ fn main(rt: HostRuntime) -> ExitCode {
     }
 }
 
-/// Executes the command line.
+/// Executes the command line, and returns the exit status. Err: the fault of the command.
 fn run(rt: &HostRuntime) -> Result<ExitCode, Fault> {
     let alloc = rt.alloc();
     let words = words(rt, alloc)?;
@@ -47,7 +48,8 @@ fn run(rt: &HostRuntime) -> Result<ExitCode, Fault> {
     }
 }
 
-/// Prints why a command line is refused, or what `--help` or `--version` asked for.
+/// Prints why a command line is refused, or what `--help` or `--version` asked for. Returns the
+/// exit status. Errors: `Memory`; `Write` if the requested text could not be written.
 fn refuse(rt: &HostRuntime, error: &clap::Error) -> Result<ExitCode, Fault> {
     if error.kind() == ErrorKind::OutOfMemory {
         return Err(Fault::Memory);
@@ -59,7 +61,8 @@ fn refuse(rt: &HostRuntime, error: &clap::Error) -> Result<ExitCode, Fault> {
     Ok(ExitCode::from(error.exit_code() as u8))
 }
 
-/// Returns the words of the command line, with the program's name.
+/// Returns the words of the command line, with the program's name. Errors: `Memory`; `Words` if one
+/// is not UTF-8.
 fn words(rt: &HostRuntime, alloc: Global) -> Result<Vec<String>, Fault> {
     match env::args(rt) {
         Ok(words) => Ok(words.collect(alloc)?),
@@ -68,8 +71,9 @@ fn words(rt: &HostRuntime, alloc: Global) -> Result<Vec<String>, Fault> {
     }
 }
 
-/// Executes the command that was matched. It is a function of its own because `run` drops everything that it holds at
-/// each of its exits.
+/// Executes the command that was matched, and returns the exit status. It is a function of its own
+/// because `run` drops everything that it holds at each of its exits. Err: the fault of the
+/// command.
 fn perform(rt: &HostRuntime, matches: &ArgMatches) -> Result<ExitCode, Fault> {
     let Some((name, arguments)) = matches.subcommand() else {
         return Ok(ExitCode::from(2));
@@ -77,8 +81,9 @@ fn perform(rt: &HostRuntime, matches: &ArgMatches) -> Result<ExitCode, Fault> {
     act(rt, name, arguments)
 }
 
-/// Executes a command. The words of each command are read in a function of its own, since a proof sees at once
-/// everything that one function holds.
+/// Executes a command, and returns the exit status. The words of each command are read in a
+/// function of its own, since a proof sees at once everything that one function holds. Err: the
+/// fault of the command.
 fn act(rt: &HostRuntime, name: &str, arguments: &ArgMatches) -> Result<ExitCode, Fault> {
     if name == "play" {
         plays(rt, arguments)?;
@@ -99,6 +104,7 @@ fn act(rt: &HostRuntime, name: &str, arguments: &ArgMatches) -> Result<ExitCode,
     Ok(ExitCode::SUCCESS)
 }
 
+/// Executes `play`. Err: its fault.
 fn plays(rt: &HostRuntime, arguments: &ArgMatches) -> Result<(), Fault> {
     let library = arguments.get_str("LIB").unwrap_or("");
     if arguments.get_flag("shared") {
@@ -107,6 +113,7 @@ fn plays(rt: &HostRuntime, arguments: &ArgMatches) -> Result<(), Fault> {
     play::play(rt, library, arguments.get_flag("hex"))
 }
 
+/// Executes `serve`. Err: its fault.
 fn serves(rt: &HostRuntime, arguments: &ArgMatches) -> Result<(), Fault> {
     let store = arguments.get_str("STORE").unwrap_or("");
     let library = arguments.get_str("LIB").unwrap_or("");
@@ -117,6 +124,7 @@ fn serves(rt: &HostRuntime, arguments: &ArgMatches) -> Result<(), Fault> {
     serve::serve(rt, store, library, group, arguments.get_flag("hex"))
 }
 
+/// Executes `format`. Err: its fault.
 fn formats(rt: &HostRuntime, arguments: &ArgMatches) -> Result<(), Fault> {
     let streams = StandardStreams::fill_closed(rt);
     let disk = format_store(
@@ -131,6 +139,7 @@ fn formats(rt: &HostRuntime, arguments: &ArgMatches) -> Result<(), Fault> {
     tell(rt, disk, b"formatted\n")
 }
 
+/// Executes `upgrade`. Err: its fault.
 fn upgrades(rt: &HostRuntime, arguments: &ArgMatches) -> Result<(), Fault> {
     let streams = StandardStreams::fill_closed(rt);
     let disk = upgrade_store(
@@ -144,9 +153,10 @@ fn upgrades(rt: &HostRuntime, arguments: &ArgMatches) -> Result<(), Fault> {
     tell(rt, disk, b"upgraded\n")
 }
 
+/// Executes `dump`. Err: its fault.
 fn dumps(rt: &HostRuntime, arguments: &ArgMatches) -> Result<(), Fault> {
     let streams = StandardStreams::fill_closed(rt);
-    let mut writer = Behind::new(rt.alloc(), Outlet::new(io::writer(rt)))?;
+    let mut writer = BufferedSink::new(rt.alloc(), StdSink::new(io::writer(rt)))?;
     write_dump(
         rt,
         &streams,
@@ -156,9 +166,10 @@ fn dumps(rt: &HostRuntime, arguments: &ArgMatches) -> Result<(), Fault> {
     )
 }
 
+/// Executes `check`. Err: its fault.
 fn checks(rt: &HostRuntime, arguments: &ArgMatches) -> Result<(), Fault> {
-    let mut writer = Outlet::new(io::writer(rt));
-    write_text(
+    let mut writer = StdSink::new(io::writer(rt));
+    write_library_text(
         rt,
         arguments.get_str("LIB").unwrap_or(""),
         arguments.get_flag("where"),

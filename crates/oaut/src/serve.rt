@@ -1,16 +1,19 @@
 //! Serving the objects of a store.
 ghost use Rattle.std.specs.Prelude.{IfErr, IfOk};
-ghost use Rattle.oa_stream.specs.Ahead.{ahead};
+ghost use Rattle.oa_stream.specs.BufferedSource.{ahead};
 ghost use Rattle.oaut.specs.Sessions.{HasServed, HasServedShared, IsOfNoStore, OpensStore, group_near};
 
 use crate::session::{StandardInput, StandardOutput, hold, hold_shared};
-use oa_commands::{Fault, STANDARD_INPUT, StandardStreams, open_store_file, read_library};
+use oa_commands::{Fault, STANDARD_INPUT, StandardStreams, open_store_file, read_library_file};
 use oa_disk::{Disk, FileDisk};
 use oa_model::MAX_GROUP;
 use oa_server::Server;
 use oa_stream::{Sink, Source};
 
-/// Serves a session over a store of a library, with commit groups of up to `group` requests.
+/// Serves a session over the store in the file `store` with the library in the file `library`:
+/// lines of hexadecimal digits if `hex`, otherwise records. Up to `group` requests are committed
+/// together (1 to 1,024). Err: `TwoInputs` if `library` is standard input; library or store was not
+/// opened; the session ended by a fault.
 pub(crate) fn serve(
     rt: &HostRuntime,
     store: &str,
@@ -29,8 +32,9 @@ pub(crate) fn serve(
     hold(rt, &mut server, (group as usize).clamp(1, MAX_GROUP), hex)
 }
 
-/// Serves a session of many clients over a store of a library, with commit groups of up to `group` requests of any
-/// clients.
+/// Serves a session of many clients over the store in the file `store` with the library in the file
+/// `library`. Up to `group` requests of any clients are committed together (1 to 1,024). Errors are
+/// those of `serve`.
 pub(crate) fn serve_shared(
     rt: &HostRuntime,
     store: &str,
@@ -48,7 +52,8 @@ pub(crate) fn serve_shared(
     hold_shared(rt, &mut server, (group as usize).clamp(1, MAX_GROUP))
 }
 
-/// Opens a server over a store of a library.
+/// Opens a server over the store in the file `store` with the library in the file `library`. Err:
+/// the first of the two that was not read or opened.
 fn opened(
     rt: &HostRuntime,
     streams: &StandardStreams,
@@ -59,7 +64,7 @@ fn opened(
     ensures refused { IfErr result IsOfNoStore }
 {
     let alloc = rt.alloc();
-    let library = read_library(rt, alloc, library)?;
+    let library = read_library_file(rt, alloc, library)?;
     let disk = open_store_file(rt, streams, alloc, store)?;
     match Server::open(alloc, disk, library) {
         Ok(server) => Ok(server),

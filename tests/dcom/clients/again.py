@@ -1,10 +1,12 @@
-"""References over restarts and new libraries. `again.py make` makes an object and prints its IPIDs, of IDispatch, DItem and the hub; `again.py same IPID..`
-uses them; `again.py gone IPID..` has them refused; `again.py more IPID..` uses what a new library has."""
+"""References over restarts and new libraries. `again.py make` makes an object and prints its IPIDs,
+of IDispatch, DItem and the hub; `again.py same IPID..` uses them; `again.py gone IPID..` has them
+refused; `again.py more IPID..` uses what a new library has."""
 import sys
 
-from lean import *
+from tests.dcom.clients.lean import *
 
-MORE = uuid.UUID("11223344-5566-7788-99AA-BBCCDDEEFF00").bytes_le  # a dispinterface that stands before all others
+# a dispinterface that stands before all others
+MORE = uuid.UUID("11223344-5566-7788-99AA-BBCCDDEEFF00").bytes_le
 OTHER = uuid.UUID("11223344-5566-7788-99AA-BBCCDDEEFF09").bytes_le  # a coclass with it
 
 
@@ -34,7 +36,11 @@ def gone(*ipids):
 def more(item, face, hub):
     same(item, face, hub)
     (found,), _ = query(Dce(iid=codes.IID_IREMUNKNOWN).call, unknown_of(item), item, MORE)
-    tell("an old object has a new interface", found[0] == 0 and Proxy(Dce(iid=MORE).call, found[1], MORE).get(1) == 0, found)
+    tell(
+        "an old object has a new interface",
+        found[0] == 0 and Proxy(Dce(iid=MORE).call, found[1], MORE).get(1) == 0,
+        found,
+    )
     time.sleep(1.1)
     ref = create(OTHER)
     tell("a coclass of the new library", Proxy(Dce().call, ref.ipid).get(1) == 0)
@@ -42,7 +48,10 @@ def more(item, face, hub):
     time.sleep(1.1)
     its = create(OTHER, MORE).ipid
     tell("an interface of it", Proxy(Dce(iid=MORE).call, its, MORE).get(1) == 0)
-    tell("the hub's collection of it", Proxy(Dce().call, Proxy(Dce().call, hub).get(10, "Other").ipid).get(2) == 2)
+    tell(
+        "the hub's collection of it",
+        Proxy(Dce().call, Proxy(Dce().call, hub).get(10, "Other").ipid).get(2) == 2,
+    )
     same(item, face, hub)
 
 

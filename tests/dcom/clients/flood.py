@@ -1,11 +1,12 @@
-"""15 clients of one address beside 10,000 idle connections of another: `flood.py CONNECTIONS PID SECONDS`. What the slowest of them waits for may be so
-many seconds longer than before, or thirty times as long on a machine where that is more."""
+"""15 clients of one address beside 10,000 idle connections of another: `flood.py CONNECTIONS PID
+SECONDS`. What the slowest of them waits for may be so many seconds longer than before, or thirty
+times as long on a machine where that is more."""
 import multiprocessing
 import socket
 import threading
 import time
 
-from lean import *
+from tests.dcom.clients.lean import *
 
 CLIENTS = 15
 
@@ -28,7 +29,8 @@ def served(ref):
 
 
 def flooding(count, made):
-    """Makes so many idle connections, of which 400 at most are there at once. What is measured may run at another priority."""
+    """Makes so many idle connections, of which 400 at most are there at once. What is measured may
+    run at another priority."""
     os.sched_setscheduler(0, os.SCHED_OTHER, os.sched_param(0))
     big = wire.HEADER.pack(5, 0, 0, 1, 0x10, 5840, 0, 1) + bytes(3000)
     rows = ((RESOLVER, b""), (RESOLVER, b"\5\0\13"), (PORT, big), (PORT, b""))
@@ -37,7 +39,9 @@ def flooding(count, made):
         mine = []
         while made.value < count:
             try:
-                s = socket.create_connection((HOST, port), source_address=("127.0.0.77", 0), timeout=10)
+                s = socket.create_connection(
+                    (HOST, port), source_address=("127.0.0.77", 0), timeout=10
+                )
                 s.sendall(data)
                 mine.append(s)
                 with made.get_lock():
@@ -64,9 +68,17 @@ def main(count, pid, longer):
         during, rounds = max(during, served(ref)), rounds + 1
     child.join()
     after = pages(pid)
-    tell(f"beside {made.value} idle connections 15 clients at a time are served", during < max(before + longer, 30 * before), (before, during, rounds))
+    tell(
+        f"beside {made.value} idle connections 15 clients at a time are served",
+        during < max(before + longer, 30 * before),
+        (before, during, rounds),
+    )
     tell("memory", after - memory < 24, (memory, after))
-    print(f"slowest before {before * 1000:.0f} ms, during {during * 1000:.0f} ms ({rounds} rounds); {memory} MiB, then {after} MiB", flush=True)
+    print(
+        f"slowest before {before * 1000:.0f} ms, during {during * 1000:.0f} ms ({rounds} rounds); "
+        f"{memory} MiB, then {after} MiB",
+        flush=True,
+    )
 
 
 if __name__ == "__main__":

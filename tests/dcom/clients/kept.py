@@ -1,11 +1,12 @@
-"""16 clients that put numbers into an object each until standard input ends, while somebody kills what serves them. What was acknowledged has to be there,
-the same reference has to work again, and no lock may be left."""
+"""16 clients that put numbers into an object each until standard input ends, while somebody kills
+what serves them. What was acknowledged has to be there, the same reference has to work again, and
+no lock may be left."""
 import sys
 import threading
 import time
 
-from lean import *
 from oaut.wire import array_field
+from tests.dcom.clients.lean import *
 
 CLIENTS, PATIENCE = 16, 600
 stop = threading.Event()

@@ -1,26 +1,29 @@
-"""A lean DCOM client: RPC over TCP with its own side of NTLM, and stubs by hand. It is for what other clients do not do: to hold one connection, to spoil
-bytes, to send much. Its arguments are in the environment: DCOM_HOST, DCOM_RESOLVER, DCOM_PORT."""
+"""A lean DCOM client: RPC over TCP with its own side of NTLM, and stubs by hand. It is for what
+other clients do not do: to hold one connection, to spoil bytes, to send much. Its arguments are in
+the environment: DCOM_HOST, DCOM_RESOLVER, DCOM_PORT."""
 import hashlib
 import hmac
 import os
 import secrets
 import socket
 import struct
-import sys
 import time
 import uuid
 
-ROOT = os.path.dirname(os.path.dirname(os.path.dirname(os.path.dirname(os.path.abspath(__file__)))))
-sys.path[:0] = [f"{ROOT}/clients/dcom", f"{ROOT}/clients/python"]
 from Cryptodome.Cipher import ARC4
 from Cryptodome.Hash import MD4
+
 from oaut.wire import read_field, spell
-from oaut_dcom import codes, orpc, variants
+from oaut_dcom import codes, orpc
 from oaut_dcom import pdu as wire
+from oaut_dcom import variants
 from oaut_dcom.ndr import Reader, Writer, serialized
+from tests import ROOT
 
 HOST = os.environ.get("DCOM_HOST", "127.0.0.5")
-RESOLVER, PORT = int(os.environ.get("DCOM_RESOLVER", "135")), int(os.environ.get("DCOM_PORT", "49200"))
+RESOLVER, PORT = int(os.environ.get("DCOM_RESOLVER", "135")), int(
+    os.environ.get("DCOM_PORT", "49200")
+)
 # of connections that name none; captures are read at 5
 LEVEL = int(os.environ.get("DCOM_LEVEL", "6"))
 USER, PASSWORD = "joe", "Secret-1"
@@ -30,8 +33,13 @@ IDISPATCH = codes.IID_IDISPATCH
 METHOD, GET, PUT = 1, 2, 4
 CLSID = uuid.UUID("11223344-5566-7788-99AA-BBCCDDEEFF03").bytes_le
 FACE = uuid.UUID("11223344-5566-7788-99AA-BBCCDDEEFF02").bytes_le
-# the hub's class, as docs/guide/com.md has it of the first interface: the words 6F617574, 6875 and 6221 are its mask
-HUB = struct.pack("<IHH8s", *[a ^ b for a, b in zip(struct.unpack("<IHH", FACE[:8]), (0x6F617574, 0x6875, 0x6221))], FACE[8:])
+# the hub's class, as docs/guide/com.md has it of the first interface: the words 6F617574, 6875 and
+# 6221 are its mask
+HUB = struct.pack(
+    "<IHH8s",
+    *[a ^ b for a, b in zip(struct.unpack("<IHH", FACE[:8]), (0x6F617574, 0x6875, 0x6221))],
+    FACE[8:],
+)
 
 
 def tell(name, well, what=""):
@@ -58,10 +66,20 @@ def _mac(key, data):
 class Ntlm:
     """The client's side of an exchange."""
 
-    def __init__(self, user=USER, password=PASSWORD, domain="OAUT", flags=0xE20882B7, mic=True, upper=str.upper):
+    def __init__(
+        self,
+        user=USER,
+        password=PASSWORD,
+        domain="OAUT",
+        flags=0xE20882B7,
+        mic=True,
+        upper=str.upper,
+    ):
         self.user, self.domain, self.flags, self.mic, self.upper = user, domain, flags, mic, upper
         self.hash = MD4.new(password.encode("utf-16-le")).digest()
-        self.negotiate = struct.pack("<8sIIHHIHHI8s", b"NTLMSSP\0", 1, flags, 0, 0, 0, 0, 0, 0, bytes(8))
+        self.negotiate = struct.pack(
+            "<8sIIHHIHHI8s", b"NTLMSSP\0", 1, flags, 0, 0, 0, 0, 0, 0, bytes(8)
+        )
 
     def authenticate(self, challenge, version=2):
         flags = struct.unpack_from("<I", challenge, 20)[0]
@@ -81,7 +99,15 @@ class Ntlm:
         for part in parts:
             heads += struct.pack("<HHI", len(part), len(part), at)
             at += len(part)
-        token = b"NTLMSSP\0" + struct.pack("<I", 3) + heads + struct.pack("<I", flags) + bytes(8) + bytes(16) + b"".join(parts)
+        token = (
+            b"NTLMSSP\0"
+            + struct.pack("<I", 3)
+            + heads
+            + struct.pack("<I", flags)
+            + bytes(8)
+            + bytes(16)
+            + b"".join(parts)
+        )
         if self.mic:
             token = token[:72] + _mac(self.key, self.negotiate + challenge + token) + token[88:]
         return token
@@ -105,13 +131,27 @@ class Half:
 class Dce:
     """A connection that has bound one interface."""
 
-    def __init__(self, host=HOST, port=PORT, iid=IDISPATCH, level=LEVEL, user=USER, password=PASSWORD, most=5840, group=0, source=None, **how):
+    def __init__(
+        self,
+        host=HOST,
+        port=PORT,
+        iid=IDISPATCH,
+        level=LEVEL,
+        user=USER,
+        password=PASSWORD,
+        most=5840,
+        group=0,
+        source=None,
+        **how,
+    ):
         self.s = socket.create_connection((host, port), timeout=TIMEOUT, source_address=source)
         self.s.setsockopt(socket.IPPROTO_TCP, socket.TCP_NODELAY, 1)
         self.f = self.s.makefile("rb")
         self.level, self.call_id, self.most, self.iid = level, 1, most, iid
         self.kind, self.context = 10, 7
-        context = struct.pack("<HHIBxHHBx", most, most, group, 1, 0, 0, 1) + iid + bytes(4) + wire.NDR
+        context = (
+            struct.pack("<HHIBxHHBx", most, most, group, 1, 0, 0, 1) + iid + bytes(4) + wire.NDR
+        )
         if level < 2:
             self.s.sendall(self.whole(wire.BIND, context))
             self.bound(wire.read(self.pdu()))
@@ -121,7 +161,9 @@ class Dce:
         back = self.bound(wire.read(self.pdu()))
         token = ntlm.authenticate(back.auth.token)
         self.key = ntlm.key
-        self.out, self.inn = Half(ntlm.key, b"client-to-server"), Half(ntlm.key, b"server-to-client")
+        self.out, self.inn = Half(ntlm.key, b"client-to-server"), Half(
+            ntlm.key, b"server-to-client"
+        )
         self.s.sendall(self.whole(wire.AUTH3, b"    ", token))
 
     def bound(self, back):
@@ -131,8 +173,22 @@ class Dce:
         return back
 
     def whole(self, kind, body, token=b""):
-        tail = (bytes(-len(body) % 4) + wire.TRAILER.pack(self.kind, self.level, 0, 0, self.context) + token) if token else b""
-        return wire.HEADER.pack(5, 0, kind, 3, 0x10, 16 + len(body) + len(tail), len(token), self.call_id) + body + tail
+        tail = (
+            (
+                bytes(-len(body) % 4)
+                + wire.TRAILER.pack(self.kind, self.level, 0, 0, self.context)
+                + token
+            )
+            if token
+            else b""
+        )
+        return (
+            wire.HEADER.pack(
+                5, 0, kind, 3, 0x10, 16 + len(body) + len(tail), len(token), self.call_id
+            )
+            + body
+            + tail
+        )
 
     def pdu(self):
         head = self.f.read(16)
@@ -147,15 +203,28 @@ class Dce:
         found = []
         for at in range(0, max(len(stub), 1), room):
             part = stub[at : at + room]
-            flags = (1 if at == 0 else 0) | (2 if at + room >= len(stub) else 0) | (0x80 if ipid else 0)
+            flags = (
+                (1 if at == 0 else 0) | (2 if at + room >= len(stub) else 0) | (0x80 if ipid else 0)
+            )
             head = struct.pack("<IHH", len(stub), 0, opnum) + (ipid or b"")
             if self.level < 5:
-                found.append(wire.HEADER.pack(5, 0, 0, flags, 0x10, 16 + len(head) + len(part), 0, self.call_id) + head + part)
+                found.append(
+                    wire.HEADER.pack(
+                        5, 0, 0, flags, 0x10, 16 + len(head) + len(part), 0, self.call_id
+                    )
+                    + head
+                    + part
+                )
                 continue
             pad = -len(part) % 16
             part += bytes(pad)
             trailer = wire.TRAILER.pack(self.kind, self.level, pad, 0, self.context)
-            head = wire.HEADER.pack(5, 0, 0, flags, 0x10, 16 + len(head) + len(part) + 24, 16, self.call_id) + head
+            head = (
+                wire.HEADER.pack(
+                    5, 0, 0, flags, 0x10, 16 + len(head) + len(part) + 24, 16, self.call_id
+                )
+                + head
+            )
             sealed = self.out.cipher(part) if self.level == 6 else part
             found.append(head + sealed + trailer + self.out.mac(head + part + trailer))
         return found
@@ -196,7 +265,13 @@ class Dce:
 
 def field(value):
     """The bytes of a value: bytes as they are, None as EMPTY."""
-    return bytes(value) if isinstance(value, (bytes, bytearray)) else variants.EMPTY if value is None else spell(value)
+    return (
+        bytes(value)
+        if isinstance(value, (bytes, bytearray))
+        else variants.EMPTY
+        if value is None
+        else spell(value)
+    )
 
 
 def double(number):
@@ -284,18 +359,31 @@ class Proxy:
 def activation(clsid, iids):
     """The stub of a RemoteCreateInstance."""
     out = Writer().raw(THIS).u32(0).u32(orpc.SET)
-    instance = Writer().guid(clsid).u32(0, 0, 0, len(iids), 0, orpc.SET, 0).u16(5, 7).u32(len(iids)).raw(b"".join(iids))
+    instance = (
+        Writer()
+        .guid(clsid)
+        .u32(0, 0, 0, len(iids), 0, orpc.SET, 0)
+        .u16(5, 7)
+        .u32(len(iids))
+        .raw(b"".join(iids))
+    )
     request = Writer().u32(0, orpc.SET, 2).u16(1).u32(orpc.SET, 1).u16(7)
     parts = [serialized(instance), serialized(request)]
 
     def head(size, total):
         made = Writer().u32(total, size, 0, 2, 2).guid(bytes(16)).u32(orpc.SET, orpc.SET, 0)
-        return serialized(made.u32(2).raw(codes.CLSID_INSTANTIATION + codes.CLSID_SCM_REQUEST).u32(2, *map(len, parts)))
+        return serialized(
+            made.u32(2)
+            .raw(codes.CLSID_INSTANTIATION + codes.CLSID_SCM_REQUEST)
+            .u32(2, *map(len, parts))
+        )
 
     size = len(head(0, 0))
     total = size + sum(map(len, parts))
     blob = struct.pack("<II", total, 0) + head(size, total) + b"".join(parts)
-    return out.interface(orpc.custom(codes.IID_PROPERTIES_IN, codes.CLSID_PROPERTIES_IN, blob)).done()
+    return out.interface(
+        orpc.custom(codes.IID_PROPERTIES_IN, codes.CLSID_PROPERTIES_IN, blob)
+    ).done()
 
 
 def activate(connection, clsid=CLSID, iid=IDISPATCH):
@@ -324,7 +412,16 @@ def argument(ref):
 
 def query(call, unknown, ipid, *iids):
     """RemQueryInterface: of each interface its HRESULT and its IPID."""
-    stub = Writer().raw(THIS).guid(ipid).u32(5).u16(len(iids)).u32(len(iids)).raw(b"".join(iids)).done()
+    stub = (
+        Writer()
+        .raw(THIS)
+        .guid(ipid)
+        .u32(5)
+        .u16(len(iids))
+        .u32(len(iids))
+        .raw(b"".join(iids))
+        .done()
+    )
     at = Reader(call(codes.IID_IREMUNKNOWN, 3, unknown, stub), 8)
     at.u32(), at.u32()
     found = []

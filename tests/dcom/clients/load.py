@@ -1,10 +1,10 @@
-"""Gets over many connections at PKT_PRIVACY: `load.py CONNECTIONS CALLS`. Prints calls a second, and the median and 99th percentile of one call
-in microseconds."""
+"""Gets over many connections at PKT_PRIVACY: `load.py CONNECTIONS CALLS`. Prints calls a second,
+and the median and 99th percentile of one call in microseconds."""
 import multiprocessing
 import sys
 import time
 
-from lean import *
+from tests.dcom.clients.lean import *
 
 STUB = invoke(1, GET)
 
@@ -24,8 +24,15 @@ def one(ipid, calls, ready, go, found):
 
 def main(connections, calls):
     ipid = create().ipid
-    ready, go, found = multiprocessing.Semaphore(0), multiprocessing.Event(), multiprocessing.Queue()
-    children = [multiprocessing.Process(target=one, args=(ipid, calls, ready, go, found)) for _ in range(connections)]
+    ready, go, found = (
+        multiprocessing.Semaphore(0),
+        multiprocessing.Event(),
+        multiprocessing.Queue(),
+    )
+    children = [
+        multiprocessing.Process(target=one, args=(ipid, calls, ready, go, found))
+        for _ in range(connections)
+    ]
     for it in children:
         it.start()
     for _ in children:
@@ -36,7 +43,10 @@ def main(connections, calls):
     passed = time.perf_counter() - begun
     for it in children:
         it.join()
-    print(f"{len(times) / passed:.0f} {times[len(times) // 2] * 1e6:.0f} {times[len(times) * 99 // 100] * 1e6:.0f}")
+    print(
+        f"{len(times) / passed:.0f} {times[len(times) // 2] * 1e6:.0f} "
+        f"{times[len(times) * 99 // 100] * 1e6:.0f}"
+    )
 
 
 if __name__ == "__main__":

@@ -1,5 +1,6 @@
-"""Makes an object and prints its IPID, and those of its ITypeInfo, its library's ITypeLib and its ITypeComp."""
-from lean import *
+"""Makes an object and prints its IPID, and those of its ITypeInfo, its library's ITypeLib and its
+ITypeComp."""
+from tests.dcom.clients.lean import *
 
 ref = create()
 connection = Dce()

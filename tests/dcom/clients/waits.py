@@ -1,8 +1,9 @@
-"""Waits for changes, by the lean client, over a store of clients/com/tests/demo.idl: `waits.py`, or `waits.py none` before a server without --watch."""
+"""Waits for changes, by the lean client, over a store of clients/com/tests/demo.idl: `waits.py`, or
+`waits.py none` before a server without --watch."""
 import sys
 
-from at_once import numbered, replies
-from lean import *
+from tests.dcom.clients.at_once import numbered, replies
+from tests.dcom.clients.lean import *
 
 SHELF = uuid.UUID("11223344-5566-7788-99AA-BBCCDDEEFF05").bytes_le
 WAIT, LONG = 13, 600_000
@@ -12,7 +13,9 @@ FIRST, SECOND = 500, 501
 
 def begin(connection, call_id, hub, milliseconds):
     """Sends a wait, and does not stay for its reply."""
-    connection.s.sendall(b"".join(numbered(connection, call_id, 6, hub.ipid, invoke(WAIT, METHOD, (milliseconds,)))))
+    connection.s.sendall(
+        b"".join(numbered(connection, call_id, 6, hub.ipid, invoke(WAIT, METHOD, (milliseconds,))))
+    )
 
 
 def one_after_another():
@@ -38,7 +41,11 @@ def one_after_another():
     tell("nothing more", items.get(WAIT, 0) == hub.get(WAIT, 0) == 0)
     made = hub.get(4, argument(create()))
     tell("a new object", hub.get(WAIT, LONG) == made)
-    for given, code in ((-1, codes.DISP_E_OVERFLOW), (1 << 31, codes.DISP_E_OVERFLOW), ("x", codes.DISP_E_TYPEMISMATCH)):
+    for given, code in (
+        (-1, codes.DISP_E_OVERFLOW),
+        (1 << 31, codes.DISP_E_OVERFLOW),
+        ("x", codes.DISP_E_TYPEMISMATCH),
+    ):
         tell(f"{given} milliseconds", hub.invoke(WAIT, METHOD, (given,)).code == code)
     tell("no milliseconds", hub.invoke(WAIT, METHOD, ()).code == codes.DISP_E_BADPARAMCOUNT)
 
@@ -58,10 +65,18 @@ def at_once():
     connection.call_id = 600
     Proxy(writer.call, ref.ipid).put(1, 8)
     found, order = replies(connection, 1)
-    tell("a change ends the first wait", order == [FIRST] and Answer(found[FIRST]).value == numbers[0], order)
+    tell(
+        "a change ends the first wait",
+        order == [FIRST] and Answer(found[FIRST]).value == numbers[0],
+        order,
+    )
     Proxy(writer.call, other.ipid).put(1, 8)
     found, order = replies(connection, 1)
-    tell("the next one ends the second", order == [SECOND] and Answer(found[SECOND]).value == numbers[1], order)
+    tell(
+        "the next one ends the second",
+        order == [SECOND] and Answer(found[SECOND]).value == numbers[1],
+        order,
+    )
     connection.call_id = 700
     tell("and the connection is as before", item.get(1) == 8)
 
@@ -88,8 +103,15 @@ def gone():
 def none():
     hub = Proxy(Dce().call, create(HUB).ipid)
     got = hub.invoke(WAIT, METHOD, (0,))
-    wanted = "oaut, WaitForChange: the server was not reached; nothing was sent (RPC_S_SERVER_UNAVAILABLE, 0x800706BA)"
-    tell("without --watch", got.code == codes.DISP_E_EXCEPTION or got.code == 0x800706BA, hex(got.code))
+    wanted = (
+        "oaut, WaitForChange: the server was not reached; nothing was sent "
+        "(RPC_S_SERVER_UNAVAILABLE, 0x800706BA)"
+    )
+    tell(
+        "without --watch",
+        got.code == codes.DISP_E_EXCEPTION or got.code == 0x800706BA,
+        hex(got.code),
+    )
     tell("what is told", wanted in got.texts, got.texts)
 
 

@@ -1,16 +1,17 @@
 //! The cell of a property that a call names.
 ghost use Rattle.std.specs.Prelude.{◌≡◌, ◌≤◌, length, IfOk, Ok, Some};
 ghost use Rattle.oa_model.specs.Limits.{max_key_scalars};
-ghost use Rattle.oa_bind.specs.Bindings.{BindingTakesMemory, bound_to};
-ghost use Rattle.oa_decision.specs.Cells.{FindingTakesMemory, FindsDue, bound_as, call_found, cell_called, member_found};
-ghost use Rattle.oa_decision.specs.Interfaces.{interface_found};
-ghost use Rattle.oa_table.specs.Tables.{object_at};
+ghost use Rattle.oa_bind.specs.promise.Bindings.{BindingTakesMemory, bound_to};
+ghost use Rattle.oa_decision.specs.promise.Cells.{FindingTakesMemory, bound_as, call_found, cell_called, member_found};
+ghost use Rattle.oa_decision.specs.Cells.{FindsDue};
+ghost use Rattle.oa_decision.specs.promise.Interfaces.{interface_found};
+ghost use Rattle.oa_table.specs.promise.Tables.{object_at};
 ghost use Rattle.oa_typelib.specs.Bindable.{IsBindable};
-ghost use Rattle.oa_typelib.specs.Members.{member_in};
+ghost use Rattle.oa_typelib.specs.promise.Members.{member_in};
 ghost use Rattle.oa_variant.specs.Variants.{HasZero};
 
 use super::Decider;
-use crate::decision::Undecided;
+use crate::decision::DecideError;
 use crate::refusal::Refusal;
 use oa_bind::bind;
 use oa_model::ValueType;
@@ -19,8 +20,8 @@ use oa_table::{CellName, LiveObject, Place};
 use oa_typelib::{Access, Dispinterface, Kind, Member};
 use oa_variant::Variant;
 
-/// The cell of a property that a call addresses, and the call's new value for it. Public for the definitions that use
-/// it.
+/// The cell of a property that a call addresses, and the call's new value for it. Public for the
+/// definitions that use it.
 #[derive(Drop)]
 pub struct BoundCell {
     /// The cell.
@@ -32,11 +33,13 @@ pub struct BoundCell {
 }
 
 impl Decider<'_> {
-    /// Finds the cell of a property that a call addresses. Refusals, in this order: those of the object, its
-    /// interface and riid; of the member, if it does not have the form that `access` requires; of the arguments.
-    /// These are bound in the form that an INVOKE's flags ask for, and as those of a get for any other access.
-    #[tactic(auto, unfolding(crate::specs::Cells::cell_called))]
-    pub(super) fn find_cell(&self, call: Call, access: Access) -> Result<BoundCell, Undecided>
+    /// Finds the cell of a property that a call addresses. Arguments are bound in the form that an
+    /// INVOKE's flags ask for, and as those of a get for any other access.
+    ///
+    /// Errors: `OutOfMemory`; and `Refused`, in this order: for the object, its interface and riid;
+    /// for the member, if it does not have the form that `access` requires; for the arguments.
+    #[tactic(auto, unfolding(crate::specs::promise::Cells::cell_called))]
+    pub(super) fn find_cell(&self, call: Call, access: Access) -> Result<BoundCell, DecideError>
         ensures cell { FindsDue (cell_called self.now call access) (FindingTakesMemory self.now call access) result }
         ensures zero { IfOk result (λ cell. HasZero cell.declared) }
     {
@@ -44,14 +47,15 @@ impl Decider<'_> {
         self.find_cell_of(object, call, access)
     }
 
-    /// Finds the cell for an object that was found.
-    #[tactic(auto, unfolding(crate::specs::Cells::cell_called))]
+    /// Finds the cell that a call addresses, for an object that was found. Errors are the later
+    /// ones of `find_cell`.
+    #[tactic(auto, unfolding(crate::specs::promise::Cells::cell_called))]
     pub(super) fn find_cell_of(
         &self,
         object: &LiveObject,
         call: Call,
         access: Access,
-    ) -> Result<BoundCell, Undecided>
+    ) -> Result<BoundCell, DecideError>
         requires { object_at call.head.object self.now.table ≡ Some object.now }
         ensures cell { FindsDue (cell_called self.now call access) (FindingTakesMemory self.now call access) result }
         ensures object { IfOk result (λ cell. cell.name.object ≡ call.head.object) }
@@ -61,14 +65,15 @@ impl Decider<'_> {
         self.find_cell_in(&interface, call, access)
     }
 
-    /// Finds the cell for an interface that was found.
-    #[tactic(auto, unfolding(crate::specs::Cells::cell_called))]
+    /// Finds the cell that a call addresses, for an interface that was found. Errors: `Refused` for
+    /// the member or the arguments; `OutOfMemory`.
+    #[tactic(auto, unfolding(crate::specs::promise::Cells::cell_called))]
     fn find_cell_in(
         &self,
         interface: &Dispinterface<'_>,
         call: Call,
         access: Access,
-    ) -> Result<BoundCell, Undecided>
+    ) -> Result<BoundCell, DecideError>
         requires { interface_found self.now call.head.object call.head.interface call.head.riid ≡ Ok interface.now }
         ensures cell { FindsDue (cell_called self.now call access) (FindingTakesMemory self.now call access) result }
         ensures object { IfOk result (λ cell. cell.name.object ≡ call.head.object) }
@@ -91,14 +96,15 @@ impl Decider<'_> {
         })
     }
 
-    /// Binds the arguments of a call to the parameters of a property.
+    /// Binds the arguments of a call to the parameters of a property. Errors: `Refused`,
+    /// `OutOfMemory`.
     fn bind_call(
         &self,
         member: &Member<'_>,
         kind: Kind,
         arguments: Arguments,
         named: &Dispids,
-    ) -> Result<oa_bind::BoundCall, Undecided>
+    ) -> Result<oa_bind::BoundCall, DecideError>
         requires { IsBindable member.now }
         ensures call { FindsDue (call_found (bound_to member.now kind (record { named = named.now; arguments = arguments })))
             (BindingTakesMemory member.now.parameters member.now.value_type kind (record { named = named.now; arguments = arguments })) result }
@@ -109,8 +115,8 @@ impl Decider<'_> {
     }
 }
 
-/// Finds the member of an interface that a call addresses, in the form that the call asks for. Arguments can be bound
-/// to it.
+/// Finds the member of an interface that a call addresses, in the form that the call asks for.
+/// Arguments can be bound to it. Err: there is no such member, or it does not have the form.
 fn find_member<'a>(
     interface: &Dispinterface<'a>,
     dispid: i32,
@@ -122,7 +128,7 @@ fn find_member<'a>(
     Ok(interface.member(dispid, access)?)
 }
 
-/// Returns the form in which arguments are bound.
+/// Returns the form in which arguments are bound: `form` for an INVOKE, a get for any other access.
 fn bound_as(access: Access, form: Kind) -> Kind
     ensures { result ≡ bound_as access form }
 {

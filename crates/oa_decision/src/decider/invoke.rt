@@ -1,15 +1,15 @@
 //! INVOKE.
 ghost use Rattle.std.specs.Prelude.{◌≡◌, ◌⊎◌, ⊤, IfOk, IsOk, Ok, Some};
-ghost use Rattle.oa_decision.specs.Cells.{FindingTakesMemory};
+ghost use Rattle.oa_decision.specs.promise.Cells.{FindingTakesMemory};
 ghost use Rattle.oa_decision.specs.Decisions.{ChangesNoLocks, Decides};
-ghost use Rattle.oa_decision.specs.Invoke.{cell_decided, invocation, reply_value};
-ghost use Rattle.oa_table.specs.Tables.{object_at};
+ghost use Rattle.oa_decision.specs.promise.Invoke.{cell_decided, invocation, reply_value};
+ghost use Rattle.oa_table.specs.promise.Tables.{object_at};
 ghost use Rattle.oa_typelib.specs.declared.access.Access.TheVariants.{Flags};
 ghost use Rattle.oa_variant.specs.Variants.{HasZero};
 
 use super::Decider;
 use super::cell::BoundCell;
-use crate::decision::{Decision, Undecided};
+use crate::decision::{DecideError, Decision};
 use crate::fields::Fields;
 use oa_image::SizedEvent;
 use oa_model::{HResult, ValueType};
@@ -20,8 +20,9 @@ use oa_variant::Variant;
 use std::alloc::AllocError;
 
 impl Decider<'_> {
-    /// Decides an INVOKE: a get replies with the value of its cell, a put sets it.
-    pub(super) fn invocation(&self, call: Call) -> Result<Decision, Undecided>
+    /// Decides an INVOKE: a get replies with the value of its cell, a put sets it. Errors are those
+    /// of `find_cell`; `OutOfMemory`.
+    pub(super) fn invocation(&self, call: Call) -> Result<Decision, DecideError>
         ensures decided { Decides (invocation self.now call) (FindingTakesMemory self.now call (Flags call.head.flags) ⊎ IsOk (invocation self.now call)) result }
         ensures unlocked { IfOk result ChangesNoLocks }
     {
@@ -31,9 +32,10 @@ impl Decider<'_> {
         self.cell_decided(object, cell)
     }
 
-    /// Decides about a cell that was found: it is read, or set to the new value.
+    /// Decides about a cell that was found: it is read, or set to the new value. Err: an allocation
+    /// failed.
     #[tactic(auto, using(crate::proofs::Zeros::no_locks))]
-    fn cell_decided(&self, object: &LiveObject, cell: BoundCell) -> Result<Decision, Undecided>
+    fn cell_decided(&self, object: &LiveObject, cell: BoundCell) -> Result<Decision, DecideError>
         requires object { object_at cell.name.object self.now.table ≡ Some object.now }
         requires zero { HasZero cell.declared }
         ensures decided { Decides (Ok (cell_decided self.now cell)) ⊤ result }
@@ -59,7 +61,8 @@ impl Decider<'_> {
         }
     }
 
-    /// Returns the value of a cell of an object as the fields of a reply.
+    /// Returns the value of a cell of an object as the fields of a reply: the zero of its declared
+    /// type if it was never put. Err: an allocation failed.
     pub(super) fn value_field(
         &self,
         object: &LiveObject,

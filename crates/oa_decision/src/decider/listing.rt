@@ -1,7 +1,7 @@
 //! LIST.
 ghost use Rattle.std.specs.Prelude.{◌≡◌, ◌+◌, ◌*◌, ◌++◌, length, IfOk, OnOk};
 ghost use Rattle.std.specs.List.{flat_map};
-ghost use Rattle.oa_decision.specs.Listing.{entry_of, objects_field};
+ghost use Rattle.oa_decision.specs.promise.Listing.{entry_of, objects_field};
 
 use super::Decider;
 use crate::fields::Fields;
@@ -9,12 +9,13 @@ use oa_record::{MAX_FIELDS_BYTES, put_number_field, put_object_field};
 use oa_table::Table;
 use std::alloc::AllocError;
 
-/// How many objects fit into the fields of one reply.
+/// The number of objects that fit into the fields of one reply.
 const MAX_LISTED: usize = (MAX_FIELDS_BYTES - 8) / 24;
 
 impl Decider<'_> {
-    /// Returns the live objects by rising number, each with its coclass, as the fields of a reply, in one allocation.
-    /// More objects fit into a reply than can be live; a table with even more is reported as out of memory.
+    /// Returns the live objects by rising number, each with its coclass, as the fields of a reply.
+    /// Err: the one allocation failed, or there are more objects than fit, which is more than can
+    /// be live.
     pub(super) fn objects_field(&self) -> Result<Fields, AllocError>
         ensures { IfOk result (λ fields. fields ≡ objects_field self.now.table) }
     {
@@ -29,7 +30,8 @@ impl Decider<'_> {
     }
 }
 
-/// Appends the objects of a table.
+/// Appends the objects of a table by rising number, each with its coclass. Err: an allocation
+/// failed.
 #[tactic(auto, using(crate::proofs::Added::goes_on, crate::proofs::Added::is_done))]
 fn put_objects(table: &Table, out: &mut Vec<u8>) -> Result<(), AllocError>
     ensures value { OnOk result (out.new.items ≡ out.old.items ++ flat_map entry_of table.now.objects) }

@@ -1,20 +1,20 @@
 //! GETIDS.
 ghost use Rattle.std.specs.Prelude.{◌≤◌, length, ⊤, IfOk, IsOk, Ok};
-ghost use Rattle.oa_model.specs.Limits.{max_names};
+ghost use Rattle.oa_model.specs.promise.Limits.{max_names};
 ghost use Rattle.oa_decision.specs.Decisions.{ChangesNoLocks, Decides};
-ghost use Rattle.oa_decision.specs.LookUps.{ids_answer, look_up};
+ghost use Rattle.oa_decision.specs.promise.LookUps.{ids_answer, look_up};
 
 use super::Decider;
-use crate::decision::{Decision, Undecided};
+use crate::decision::{DecideError, Decision};
 use crate::fields::Fields;
 use oa_model::HResult;
 use oa_record::{GetIds, ids_field};
 use oa_typelib::DispIds;
 
 impl Decider<'_> {
-    /// Decides a look-up of names.
-    #[tactic(auto, unfolding(crate::specs::LookUps::ids_found))]
-    pub(super) fn look_up(&self, call: GetIds) -> Result<Decision, Undecided>
+    /// Decides a look-up of names. Errors: `Refused` for the interface or the names; `OutOfMemory`.
+    #[tactic(auto, unfolding(crate::specs::promise::LookUps::ids_found))]
+    pub(super) fn look_up(&self, call: GetIds) -> Result<Decision, DecideError>
         ensures decided { Decides (look_up self.now call) (IsOk (look_up self.now call)) result }
         ensures unlocked { IfOk result ChangesNoLocks }
     {
@@ -23,8 +23,9 @@ impl Decider<'_> {
         self.ids_answer(found)
     }
 
-    /// Returns the reply to names; it contains their DISPIDs even if not all names are known.
-    fn ids_answer(&self, found: DispIds) -> Result<Decision, Undecided>
+    /// Returns the reply to names; it contains their DISPIDs even if not all names are known, with
+    /// DISP_E_UNKNOWNNAME as its code. Err: an allocation failed.
+    fn ids_answer(&self, found: DispIds) -> Result<Decision, DecideError>
         requires { length found.ids ≤ max_names }
         ensures decided { Decides (Ok (ids_answer found)) ⊤ result }
         ensures unlocked { IfOk result ChangesNoLocks }

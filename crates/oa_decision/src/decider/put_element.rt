@@ -1,15 +1,15 @@
 //! PUTELEM.
 ghost use Rattle.std.specs.Prelude.{◌≡◌, IfOk};
-ghost use Rattle.oa_decision.specs.ArrayCells.{as_element, element_type_in};
-ghost use Rattle.oa_decision.specs.Cells.{FindingTakesMemory};
+ghost use Rattle.oa_decision.specs.promise.ArrayCells.{as_element, element_type_in};
+ghost use Rattle.oa_decision.specs.promise.Cells.{FindingTakesMemory};
 ghost use Rattle.oa_decision.specs.Decisions.{ChangesNoLocks, Decides};
-ghost use Rattle.oa_decision.specs.PutElement.{element_for, element_put};
+ghost use Rattle.oa_decision.specs.promise.PutElement.{element_for, element_put};
 ghost use Rattle.oa_typelib.specs.declared.access.Access.TheVariants.{Put};
 
 use super::Decider;
 use super::array_cell::{element_type_of, no_element};
 use super::cell::BoundCell;
-use crate::decision::{Decision, Undecided};
+use crate::decision::{DecideError, Decision};
 use crate::fields::Fields;
 use crate::refusal::Refusal;
 use oa_array::Indices;
@@ -22,13 +22,14 @@ use oa_typelib::Access;
 use oa_variant::{Scalar, Variant};
 
 impl Decider<'_> {
-    /// Decides a PUTELEM: an element of an array is set in place.
+    /// Decides a PUTELEM: an element of an array is set in place. Errors: `Refused` for the cell
+    /// (as of `find_cell`), the element or the value; `OutOfMemory`.
     pub(super) fn element_put(
         &self,
         call: Call,
         indices: Indices,
         value: Variant,
-    ) -> Result<Decision, Undecided>
+    ) -> Result<Decision, DecideError>
         ensures decided { Decides (element_put self.now call indices value) (FindingTakesMemory self.now call Put) result }
         ensures unlocked { IfOk result ChangesNoLocks }
     {
@@ -43,7 +44,8 @@ impl Decider<'_> {
         Ok(Decision::Change { event, fields })
     }
 
-    /// Coerces a value to the element of a cell at an index list.
+    /// Coerces a value to the type of the element of a cell at an index list. Err: the cell has no
+    /// array, no such element, or the coercion fails.
     fn element_for(
         &self,
         cell: &BoundCell,
@@ -56,7 +58,8 @@ impl Decider<'_> {
         as_element(elem, value)
     }
 
-    /// Returns the type of the element of a cell at an index list.
+    /// Returns the type of the element of a cell at an index list. Err: the cell has no array, or
+    /// no such element.
     fn element_type_in(&self, cell: &BoundCell, index: &[i32]) -> Result<VarType, Refusal>
         ensures { result ≡ element_type_in self.now index.now cell.now }
     {
@@ -67,7 +70,7 @@ impl Decider<'_> {
     }
 }
 
-/// Coerces a value to an element of a type. An array is refused.
+/// Coerces a value to an element of a type. Err: the value is an array, or the coercion fails.
 fn as_element(elem: VarType, value: Variant) -> Result<Scalar, Refusal>
     ensures { result ≡ as_element elem value }
 {

@@ -10,8 +10,8 @@ use oa_image::SizedEvent;
 use oa_table::Event;
 
 impl Decider<'_> {
-    /// Decides a RELEASE: the object is removed. The table checks whether there is one, and whether it may be
-    /// removed. Allocates nothing.
+    /// Decides a RELEASE of the object with this number, which is removed. The table checks whether
+    /// there is one, and whether it may be removed. Allocates nothing.
     pub(super) fn ending(&self, number: u32) -> Decision
         ensures { result ≡ Change (Release number) [] }
     {

@@ -1,14 +1,15 @@
-//! The fast path of an INVOKE without arguments except a put's new value, on a property without parameters.
+//! The fast path of an INVOKE without arguments except a put's new value, on a property without
+//! parameters.
 ghost use Rattle.std.specs.Prelude.{◌≡◌, IfSome, Some};
-ghost use Rattle.oa_checks.specs.Declarations.{kind_of_property};
-ghost use Rattle.oa_coerce.specs.Answers.{coerced};
+ghost use Rattle.oa_sema.specs.promise.Declarations.{kind_of_property};
+ghost use Rattle.oa_coerce.specs.promise.Answers.{coerced};
 ghost use Rattle.oa_record.specs.ValueCalls.{bringing};
 ghost use Rattle.oa_record.specs.declared.opcode.ByCall.TheVariants.{Invoke};
 ghost use Rattle.oa_record.specs.declared.request.Request.TheVariants.{ByCall};
-ghost use Rattle.oa_table.specs.Tables.{object_at};
+ghost use Rattle.oa_table.specs.promise.Tables.{object_at};
 ghost use Rattle.oa_decision.specs.Cells.{IsKeyless};
 ghost use Rattle.oa_decision.specs.ValuePlans.{PlansGet, PlansPut, PlansValue, keyless_cell};
-ghost use Rattle.oa_typelib.specs.Members.{lets};
+ghost use Rattle.oa_typelib.specs.promise.Members.{lets};
 ghost use Rattle.oa_variant.specs.Variants.{HasZero};
 
 use super::Decider;
@@ -22,10 +23,12 @@ use oa_variant::Variant;
 use uuid::Uuid;
 
 impl Decider<'_> {
-    /// Fast path of an INVOKE on a property of scalars without parameters, with this new value or none. Returns the
-    /// reply (E_OUTOFMEMORY if an allocation failed), or the put to make, which may still be refused. None, without a
-    /// further meaning, if the call is refused, or its member is not a property of scalars that alone has its DISPID:
-    /// then use `decide`. It only reads.
+    /// Decides, by a fast path, an INVOKE on a property of scalars without parameters, with this
+    /// new value or none. It only reads. Returns the reply with this tag (E_OUTOFMEMORY if an
+    /// allocation failed), or the put to make, which may still be refused.
+    ///
+    /// None, without a further meaning, if the call is refused, or its member is not a property of
+    /// scalars that alone has its DISPID. Then use `decide`.
     pub fn plan_value(&self, tag: u32, head: &CallHead, value: Option<Variant>) -> Option<ValuePlan>
         ensures { IfSome result (PlansValue self.now tag (ByCall Invoke (bringing head.now value))) }
     {
@@ -53,7 +56,7 @@ impl Decider<'_> {
         }
     }
 
-    /// Plans a get: it replies with the value of its cell, or with out of memory.
+    /// Returns the reply to a get: the value of its cell, or E_OUTOFMEMORY.
     fn plan_get(
         &self,
         tag: u32,
@@ -82,8 +85,8 @@ impl Decider<'_> {
         }
     }
 
-    /// Plans a put: it sets its cell to the argument, coerced to the declared type, without locks. None if the
-    /// coercion fails.
+    /// Returns the put that sets a cell to the argument, coerced to the declared type, without
+    /// locks. None if the coercion fails.
     #[inline(always)]
     #[tactic(auto, using(crate::proofs::Zeros::no_locks))]
     fn plan_put(
@@ -110,9 +113,9 @@ impl Decider<'_> {
     }
 }
 
-/// Returns the type of a property of `properties:` that alone has a DISPID and has scalars, and the form that a call
-/// asks for. Such a property has no parameters, and one declaration, which need not be built. None for any other
-/// member, or if it does not have the form.
+/// Returns the type of a property of `properties:` that alone has a DISPID and has scalars, and the
+/// form that a call asks for. Such a property has no parameters, and one declaration, which need
+/// not be built. None for any other member, or if it does not have the form.
 fn find_keyless(
     interface: &Dispinterface<'_>,
     dispid: i32,

@@ -1,22 +1,23 @@
 //! Which lock a request changes, and releasing locks without a request.
 ghost use Rattle.std.specs.Prelude.{◌≡◌, ◌⊎◌, true, Some, None, Ok};
 ghost use Rattle.oa_decision.specs.declared.decision.LockChange.TheVariants.{Unlock as AnUnlock};
-ghost use Rattle.oa_record.specs.Replacement.{is_replacement};
-ghost use Rattle.oa_turn.specs.Locking.{FindsLock, FindsLockBy, asks_lock, changes_lock, is_lock};
-ghost use Rattle.oa_turn.specs.Plans.{HoldsSame};
-ghost use Rattle.oa_turn.specs.Steps.{after_locks};
+ghost use Rattle.oa_record.specs.promise.Replacement.{is_replacement};
+ghost use Rattle.oa_turn.specs.Locking.{FindsLock, FindsLockBy, asks_lock};
+ghost use Rattle.oa_turn.specs.promise.Locking.{changes_lock, is_lock};
+ghost use Rattle.oa_turn.specs.promise.Plans.{HoldsSame};
+ghost use Rattle.oa_turn.specs.promise.Steps.{after_locks};
 
-use super::Host;
+use super::Machine;
 use crate::changes::take_lock_back;
-use oa_decision::{Decision, LockChange, Undecided};
+use oa_decision::{DecideError, Decision, LockChange};
 use oa_record::laws::{one_request, opcode_stands, refused_asks_nothing};
 use oa_record::{ByCall, Opcode, RecordFault, Request, opcode_of, read_request};
 use oa_table::CellName;
 use std::alloc::AllocError;
 
-impl Host {
-    /// Returns the change that a LOCK or an UNLOCK of an existing array asks for; None for any other request. It only
-    /// reads. Err: an allocation failed.
+impl Machine {
+    /// Returns the change that a LOCK or an UNLOCK of an existing array asks for; None for any
+    /// other body. It only reads. Err: an allocation failed.
     pub fn lock_asked(&self, body: &[u8]) -> Result<Option<LockChange>, AllocError>
         ensures finds { FindsLock self.now body.now result }
         ensures plain { is_replacement body.now ≡ true → result ≡ Ok None }
@@ -28,7 +29,8 @@ impl Host {
         self.lock_in(body)
     }
 
-    /// Returns the change of a lock that any body asks for.
+    /// Returns the change of a lock that any body asks for; None if it asks for none. Err: an
+    /// allocation failed.
     fn lock_in(&self, body: &[u8]) -> Result<Option<LockChange>, AllocError>
         ensures { FindsLock self.now body.now result }
     {
@@ -42,7 +44,8 @@ impl Host {
         }
     }
 
-    /// Returns the change of a lock that a request asks for.
+    /// Returns the change of a lock that a request asks for; None if it asks for none. Err: an
+    /// allocation failed.
     fn lock_by(&self, request: Request) -> Result<Option<LockChange>, AllocError>
         ensures { FindsLockBy self.now request result }
     {
@@ -53,8 +56,8 @@ impl Host {
             Ok(Decision::Relock { change, .. }) => Ok(Some(change)),
             Ok(Decision::Answer { .. }) => Ok(None),
             Ok(Decision::Change { .. }) => Ok(None),
-            Err(Undecided::Refused(_)) => Ok(None),
-            Err(Undecided::OutOfMemory) => Err(AllocError),
+            Err(DecideError::Refused(_)) => Ok(None),
+            Err(DecideError::OutOfMemory) => Err(AllocError),
         }
     }
 
@@ -67,7 +70,7 @@ impl Host {
     }
 }
 
-/// Whether it is a LOCK or an UNLOCK.
+/// Returns whether a request is a LOCK or an UNLOCK.
 fn changes_lock(request: &Request) -> bool
     ensures { result ≡ changes_lock request.now }
 {
@@ -77,7 +80,7 @@ fn changes_lock(request: &Request) -> bool
     }
 }
 
-/// Whether the opcode in a body is that of a LOCK or of an UNLOCK.
+/// Returns whether the opcode in a body is that of a LOCK or of an UNLOCK.
 fn asks_lock(body: &[u8]) -> bool
     ensures { result ≡ asks_lock body.now }
 {
@@ -87,7 +90,7 @@ fn asks_lock(body: &[u8]) -> bool
     }
 }
 
-/// Whether it is the opcode of a LOCK or of an UNLOCK.
+/// Returns whether an opcode is that of a LOCK or of an UNLOCK.
 fn is_lock(opcode: Opcode) -> bool
     ensures { result ≡ is_lock opcode }
 {

@@ -1,11 +1,11 @@
 //! REPLACE LIBRARY.
 ghost use Rattle.std.specs.Prelude.{◌≡◌, true};
-ghost use Rattle.oa_record.specs.Replacement.{is_replacement};
+ghost use Rattle.oa_record.specs.promise.Replacement.{is_replacement};
 ghost use Rattle.oa_turn.specs.ReplacementPlans.{IsLibraryOf, RefusesLoss, PlansReplacement, text_code};
-ghost use Rattle.oa_turn.specs.Turns.{Turn};
+ghost use Rattle.oa_turn.specs.promise.Turns.{Turn};
 
-use super::Host;
-use oa_keeps::{Lost, TextError, keeps, read_library};
+use super::Machine;
+use oa_compat::{Incompatibility, TextError, keeps, read_library};
 use oa_model::HResult;
 use oa_record::{Reply, lost_field, replacement_text, tag_of};
 use oa_typelib::Library;
@@ -20,7 +20,8 @@ pub enum ReplacementPlan {
     Replaced(Library),
 }
 
-/// Returns the library whose text is in the body, or the code of a refusal.
+/// Returns the library whose text is in the body. Err: the code of the refusal, BAD_STUB_DATA or
+/// E_OUTOFMEMORY.
 fn library_of(alloc: Global, body: &[u8]) -> Result<Library, HResult>
     ensures { IsLibraryOf body.now result }
 {
@@ -40,8 +41,9 @@ fn text_code(fault: TextError) -> HResult
     }
 }
 
-/// Returns the reply with the first incompatibility.
-fn refuse_loss(alloc: Global, tag: u32, lost: Lost) -> Reply
+/// Returns the reply E_INVALIDARG with the first incompatibility; E_OUTOFMEMORY if an allocation
+/// fails.
+fn refuse_loss(alloc: Global, tag: u32, lost: Incompatibility) -> Reply
     ensures { RefusesLoss tag lost result }
 {
     match lost_field(alloc, &lost.guid(), lost.dispid()) {
@@ -50,8 +52,9 @@ fn refuse_loss(alloc: Global, tag: u32, lost: Lost) -> Reply
     }
 }
 
-impl Host {
-    /// Plans a request to replace the library. It only reads.
+impl Machine {
+    /// Plans a request to replace the library: its text has to be a library that is compatible with
+    /// the present one. It only reads. If an allocation fails, the reply is E_OUTOFMEMORY.
     pub fn plan_replacement(&self, body: &[u8]) -> ReplacementPlan
         ensures { PlansReplacement self.now body.now result }
     {
@@ -66,8 +69,9 @@ impl Host {
         }
     }
 
-    /// Answers one request with opcode 12. If an allocation fails, the reply is E_OUTOFMEMORY; after any refusal
-    /// nothing has changed.
+    /// Returns the reply to a request with opcode 12, and replaces the library if it is not
+    /// refused. If an allocation fails, the reply is E_OUTOFMEMORY. After any refusal nothing has
+    /// changed.
     pub fn replace(&mut self, body: &[u8]) -> Reply
         requires kind { is_replacement body.now ≡ true }
         ensures turn { Turn self.old body.now result self.new }

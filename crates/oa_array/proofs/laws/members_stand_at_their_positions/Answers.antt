@@ -1,5 +1,5 @@
 use Rattle.std.proofs.Common.{ap, ◌∙◌, sym, slice_get}
-use Rattle.oa_array.specs.Boxes.{index_lists}
+use Rattle.oa_array.specs.promise.Boxes.{index_lists}
 use Rattle.oa_array.proofs.Places.{member_at, member_found}
 use Rattle.oa_array.proofs.laws.members_stand_at_their_positions.Goals as goal
 

@@ -51,7 +51,8 @@ module _ (E : El) (Z : Al) where
 
 module _ (E : El) (Z : Al) {M : Type 1} {𝓤 : Ura M} (𝓛 : Logic 𝓤) (at_mem : Memory → SProp 𝓤) (run : Routine → Fun 𝓤) (C : Calls 𝓤 𝓛.H)
     (Λ : Loops 𝓤 𝓛.H) (fm : FmC 𝓤 𝓛.H 𝓛.laws C)
-    (callee : Triple 𝓤 (C (takes_key Z)) (Takes Z 𝓛 at_mem run)) (κ κ₁ κ₂ : Lft) (q q₁ q₂ : Share) (short : κ ⊑ κ₂) (within : κ₂ ⊑ Z.row.lives) (rb ro : ℕ) (a : Z.row.Denot) (len : ℕ) (vs0 vs1 : List Val) where
+    (callee : Triple 𝓤 (C (takes_key Z)) (Takes Z 𝓛 at_mem run)) (κ κ₁ κ₂ : Lft) (q q₁ q₂ : Share) (short : κ ⊑ κ₂) (within : κ₂ ⊑ Z.row.lives) (rb ro : ℕ)
+    (a : Z.row.Denot) (len : ℕ) (vs0 vs1 : List Val) where
   open 𝓛 use {H, A}
 
   abbrev handle : Bor Z.row.Denot
@@ -81,15 +82,21 @@ module _ (E : El) (Z : Al) {M : Type 1} {𝓤 : Ura M} (𝓛 : Logic 𝓤) (at_m
 
   walk : FitsInBlock (R E) len → len < 2 ^ 64 → ent 𝓤 (⋆ 𝓛 Given) (WpFn 𝓤 H C Λ (function E Z) (vptr rb ro ∷ vint w64 len ∷ []) Post)
   walk asked fits =
-      let s = size E in let small : len * s < 2 ^ 63 = asked.0 in let bytes : len * s < 2 ^ 64 = omega (arith, small) in let alignment : ℕ = capped (align (elτ E)) in
-      qed 𝓛 Given ∵ enter ! C Λ (function E Z) (vptr rb ro ∷ vint w64 len ∷ []) _ $ alloc_all ! (λ l. pass_all ! refl ((tt, tt), ((tt, record { fits = fits }), tt)) $
+      let s = size E in let small : len * s < 2 ^ 63 = asked.0 in let bytes : len * s < 2 ^ 64 = omega (arith, small) in let alignment : ℕ =
+      capped (align (elτ E)) in
+      qed 𝓛 Given ∵ enter ! C Λ (function E Z) (vptr rb ro ∷ vint w64 len ∷ []) _ $ alloc_all !
+      (λ l. pass_all ! refl ((tt, tt), ((tt, record { fits = fits }), tt)) $
       let En : Env 𝓤 H = env (function E Z).locals l in let rest : Body = after 3 (function E Z).body in let arms : Body = head (after 2 (function E Z).body) in
       let Then : After 𝓤 H = any_q (after_seq 𝓤 H (Wp 𝓤 H C Λ En rest (at_return 𝓤 H En Post)) (at_return 𝓤 H En Post)) in
       let y : (Takes Z 𝓛 at_mem run).Ghost = at_takes Z 𝓛 at_mem run κ q (rb, ro) a (len * s) alignment (block_ty E len) in
-      sets ! (is ! (bin ! (get ! refl) (size_word !) (record { fits = subst (λ (k : ℕ). k < 2 ^ 64) (sym (uncapped len s bytes)) bytes })) (ap (vint w64) (uncapped len s bytes))) refl (tt, record { fits = bytes }) $
-      use2 𝓛 (raw ((Takes Z 𝓛 at_mem run).pre y)) (Takes-goes Z 𝓛 at_mem run κ q (rb, ro) a (Incl-trans short within) (len * s) alignment (block_ty E len) (block_size E len bytes) (block_align E len) bytes (capped_fits (align (elτ E)))) $
+      sets ! (is ! (bin ! (get ! refl) (size_word !) (record { fits = subst (λ (k : ℕ). k < 2 ^ 64) (sym (uncapped len s bytes)) bytes }))
+      (ap (vint w64) (uncapped len s bytes))) refl (tt, record { fits = bytes }) $
+      use2 𝓛 (raw ((Takes Z 𝓛 at_mem run).pre y))
+      (Takes-goes Z 𝓛 at_mem run κ q (rb, ro) a (Incl-trans short within) (len * s) alignment (block_ty E len) (block_size E len bytes)
+      (block_align E len) bytes (capped_fits (align (elτ E)))) $
       calls_at ! fm (Takes Z 𝓛 at_mem run) callee y (and_then ! (get ! refl) (and_then ! (get ! refl) (and_then ! (align_word !) (no_more !)))) (λ v.
-      use1 𝓛 (later (raw (Answered Z 𝓛 at_mem run a (block_ty E len) v) ⊛ ‵ (flft κ q))) (Takes-gives Z 𝓛 at_mem run κ q (rb, ro) a (len * s) alignment (block_ty E len) v) $ await ! tt $ split ! $
+      use1 𝓛 (later (raw (Answered Z 𝓛 at_mem run a (block_ty E len) v) ⊛ ‵ (flft κ q)))
+      (Takes-gives Z 𝓛 at_mem run κ q (rb, ro) a (len * s) alignment (block_ty E len) v) $ await ! tt $ split ! $
       answers Z ! at_mem run a (block_ty E len) v
       -- a block: its room, its token, the tokens of lifetimes
       (λ b o e.
@@ -100,29 +107,36 @@ module _ (E : El) (Z : Al) {M : Type 1} {𝓤 : Ura M} (𝓛 : Logic 𝓤) (at_m
       let parts : Val = triple (word at) mark mark in
       let typed : Good (layout (Parts E Z)) parts = (tt, ((tt, tt), ((tt, tt), ((tt, tt), tt)))) in
       let ok_typed = first_Good (layout (Parts E Z)) parts typed in
-      lands_as ! e refl (Answer-typed true b o) $ first ! $ switches_on ! (get_tag ! (vrt ! refl (fld ! refl (stop !))) (whole !)) $ exec ! C Λ En (arm_body 0 arms) Then $
-      sets ! (of_opd ! (get_in ! (vrt ! refl (fld ! refl (stop !))) (in_variant ! 0 0 refl refl (whole !)))) refl (tt, tt) $ sets ! (of_opd ! (get ! refl)) refl (tt, tt) $
+      lands_as ! e refl (Answer-typed true b o) $ first ! $ switches_on ! (get_tag ! (vrt ! refl (fld ! refl (stop !))) (whole !)) $ exec ! C Λ En
+      (arm_body 0 arms) Then $
+      sets ! (of_opd ! (get_in ! (vrt ! refl (fld ! refl (stop !))) (in_variant ! 0 0 refl refl (whole !)))) refl (tt, tt) $ sets ! (of_opd ! (get ! refl)) refl
+      (tt, tt) $
       sets ! (agg ! (and_then ! (get ! refl) (no_more !))) refl (word-Good [] at) $
       sets ! (agg ! (no_more !)) refl (tt, tt) $ sets ! (agg ! (and_then ! (get ! refl) (no_more !))) refl (tt, (tt, tt)) $
       sets ! (agg ! (no_more !)) refl (tt, tt) $ sets ! (agg ! (and_then ! (get ! refl) (no_more !))) refl (tt, (tt, tt)) $
       sets ! (agg ! (and_then ! (get ! refl) (and_then ! (get ! refl) (and_then ! (get ! refl) (no_more !))))) refl typed $
-      sets_last ! (agg ! (and_then ! (lit ! tt) (and_then ! (get ! refl) (no_more !)))) refl ok_typed $ exec ! C Λ En rest (at_ret En Post) $ sets ! (of_opd ! (get ! refl)) refl ok_typed $
+      sets_last ! (agg ! (and_then ! (lit ! tt) (and_then ! (get ! refl) (no_more !)))) refl ok_typed $ exec ! C Λ En rest (at_ret En Post) $ sets !
+      (of_opd ! (get ! refl)) refl ok_typed $
       -- the right to free, the places, and where they start
       move ! (1 ∷ []) $ use0 𝓛 (‵ ((Mark E).own_val (tt, tt) (mark ∷ []))) (mark_made E 𝓛) $ fjoin ! $ move ! (1 ∷ []) $
       as_written ! (ty_array (elτ E) len) b o $ use1 𝓛 (‵ (row_owned (R E) b o places.slots)) (fresh_row E 𝓛 b len o) $
       flt_i ! (length places.slots * s) (2 ^ 63) (subst (λ k. k * s < 2 ^ 63) (sym (length-replicate len None)) small) $ fjoin ! $
       use0 𝓛 (‵ ((Mark E).own_val (tt, tt) (mark ∷ []))) (mark_made E 𝓛) $ fjoin ! $ start_made ! at $
       use3 𝓛 (‵ ((Parts E Z).own_val (start, places, right) (parts ∷ []))) (triple_made 𝓛 (St E) (Pl E) (Fr E Z) start places right (word at) mark mark) $
-      use1 𝓛 (‵ ((Outcome E Z).own_val (Ok (start, places, right)) (live 0 (vcons parts vnil) ∷ []))) (ok_of 𝓛 (Parts E Z) Error-type.the_row (start, places, right) parts) $
-      returns ! (look_at ! 0 refl) $ free_all ! refl $ keep ! (0 ∷ 1 ∷ 2 ∷ []) $ by ! (at_end (Ok (start, places, right)) (live 0 (vcons parts vnil)) (refl, refl, refl, refl, refl)))
+      use1 𝓛 (‵ ((Outcome E Z).own_val (Ok (start, places, right)) (live 0 (vcons parts vnil) ∷ [])))
+      (ok_of 𝓛 (Parts E Z) Error-type.the_row (start, places, right) parts) $
+      returns ! (look_at ! 0 refl) $ free_all ! refl $ keep ! (0 ∷ 1 ∷ 2 ∷ []) $ by !
+      (at_end (Ok (start, places, right)) (live 0 (vcons parts vnil)) (refl, refl, refl, refl, refl)))
       -- no block
       (λ e.
       let Refusal : RattleType = Struct (Declared.shape Error-type.the_type) in
       let refused : Val = live 1 (vcons (vstruct vnil) vnil) in
       let typed : Good (layout (Outcome E Z)) refused = (tt, (record { fits = lit< tt }, (tt, tt))) in
-      lands_as ! e refl (Answer-typed false 0 0) $ first ! $ switches_on ! (get_tag ! (vrt ! refl (fld ! refl (stop !))) (whole !)) $ exec ! C Λ En (arm_body 1 arms) Then $
+      lands_as ! e refl (Answer-typed false 0 0) $ first ! $ switches_on ! (get_tag ! (vrt ! refl (fld ! refl (stop !))) (whole !)) $ exec ! C Λ En
+      (arm_body 1 arms) Then $
       sets ! (of_opd ! (get_in ! (vrt ! refl (fld ! refl (stop !))) (in_variant ! 1 0 refl refl (whole !)))) refl (tt, tt) $
-      sets_last ! (agg ! (and_then ! (lit ! tt) (and_then ! (get ! refl) (no_more !)))) refl typed $ exec ! C Λ En rest (at_ret En Post) $ sets ! (of_opd ! (get ! refl)) refl typed $
+      sets_last ! (agg ! (and_then ! (lit ! tt) (and_then ! (get ! refl) (no_more !)))) refl typed $ exec ! C Λ En rest (at_ret En Post) $ sets !
+      (of_opd ! (get ! refl)) refl typed $
       owned ! Refusal (Is Refusal) (Struct-Makes 𝓛 (Declared.shape Error-type.the_type) tt) tt (vstruct vnil ∷ []) (tt, (refl, tt)) $
       use1 𝓛 (‵ ((Outcome E Z).own_val (Err (record {})) (refused ∷ []))) (err_of 𝓛 (Parts E Z) Error-type.the_row (record {}) (vstruct vnil)) $
       returns ! (look_at ! 0 refl) $ free_all ! refl $ keep ! (0 ∷ 1 ∷ 2 ∷ []) $ by ! (at_end (Err (record {})) refused tt))))
@@ -130,25 +144,32 @@ module _ (E : El) (Z : Al) {M : Type 1} {𝓤 : Ura M} (𝓛 : Logic 𝓤) (at_m
   entry : FitsInBlock (R E) len → ent 𝓤 (on_entry 𝓛 (ended E Z).signature (κ, (κ₁, (κ₂, tt))) (q, (q₁, (q₂, tt))) (handle, (len, tt))
       (vs0, (vs1, tt))) (WpFn 𝓤 H C Λ (function E Z) (vs0 ++ (vs1 ++ [])) Post)
   entry asked =
-      qed 𝓛 ((‵ (flft κ q) ⊛ others) ∷ ‵ (owns (ShrRef (named 0) κ (P E Z) ∷ usize ∷ []) (handle, (len, tt)) (vs0, (vs1, tt))) ∷ []) ∵ split ! $ move ! (2 ∷ []) $
+      qed 𝓛 ((‵ (flft κ q) ⊛ others) ∷ ‵ (owns (ShrRef (named 0) κ (P E Z) ∷ usize ∷ []) (handle, (len, tt)) (vs0, (vs1, tt))) ∷ []) ∵ split ! $ move !
+      (2 ∷ []) $
       fsplit3 ! $ fsplit ! $ feq_l ! (λ e0. move ! (1 ∷ []) $ fsplit ! $ feq_l ! (λ e1. flt_l ! (λ fits. keep ! (0 ∷ 2 ∷ 3 ∷ []) $
-      by ! (subst (λ (vss : List Val × List Val). ent 𝓤 (⋆ 𝓛 Given) (WpFn 𝓤 H C Λ (function E Z) (vss.0 ++ (vss.1 ++ [])) Post)) (λ i. (sym e0 i, sym e1 i)) (walk asked fits)))))
+      by ! (subst (λ (vss : List Val × List Val). ent 𝓤 (⋆ 𝓛 Given) (WpFn 𝓤 H C Λ (function E Z) (vss.0 ++ (vss.1 ++ [])) Post)) (λ i. (sym e0 i, sym e1 i))
+      (walk asked fits)))))
 
 meets : (E : El) (Z : Al) {M : Type 1} {𝓤 : Ura M} (𝓛 : Logic 𝓤) (at_mem : Memory → SProp 𝓤) (run : Routine → Fun 𝓤) (𝓣 : Tables 𝓤 𝓛.H)
     → Triple 𝓤 (𝓣.C (takes_key Z)) (Takes Z 𝓛 at_mem run)
     → Meets 𝓛 (ended E Z).signature (WpFn 𝓤 𝓛.H 𝓣.C 𝓣.Λ (function E Z)) (closing 𝓛 (ended E Z) (clauses E Z 𝓛 at_mem run))
 meets E Z {𝓤 = 𝓤} 𝓛 at_mem run 𝓣 callee =
     let Run = WpFn 𝓤 𝓛.H 𝓣.C 𝓣.Λ (function E Z) in
-    walk_Meets 𝓛 (ended E Z) (stayed E Z) (Goes-dropped 𝓛 3 (RefOf (0 ∷ []) tt (plain (λ _. P E Z)) (λ _. tt)) yes (λ κs x f. refl), (Goes-dropped 𝓛 3 (plain (λ _. usize)) yes (λ κs x f. refl), tt)) (clauses E Z 𝓛 at_mem run) Run (WpFn-mono 𝓤 𝓛.H 𝓛.laws 𝓣 (function E Z)) (λ z.
+    walk_Meets 𝓛 (ended E Z) (stayed E Z) (
+      Goes-dropped 𝓛 3 (RefOf (0 ∷ []) tt (plain (λ _. P E Z)) (λ _. tt)) yes (λ κs x f. refl),
+      (Goes-dropped 𝓛 3 (plain (λ _. usize)) yes (λ κs x f. refl), tt),
+    ) (clauses E Z 𝓛 at_mem run) Run (WpFn-mono 𝓤 𝓛.H 𝓛.laws 𝓣 (function E Z)) (λ z.
     let κs = z.0.0 in let qs = z.0.1 in let a = z.0.3 in let vs = z.0.4 in let handle = a.0 in let len = a.1.0 in
     let On : SProp 𝓤 = on_entry 𝓛 (ended E Z).signature κs qs a vs in let asks = FitsInBlock (R E) len in
     second 𝓤 (κs.1.0 ⊑ E.row.lives) (κs.1.1.0 ⊑ Z.row.lives) On (fact 𝓤 asks) (λ within. needs 𝓤 asks On
-    (entry E Z 𝓛 at_mem run 𝓣.C 𝓣.Λ (fm_of 𝓤 𝓛.H 𝓛.laws 𝓣) callee κs.0 κs.1.0 κs.1.1.0 qs.0 qs.1.0 qs.1.1.0 z.0.2.0 within handle.ref_ptr.0 handle.ref_ptr.1 handle.now len vs.0 vs.1.0)))
+    (entry E Z 𝓛 at_mem run 𝓣.C 𝓣.Λ (fm_of 𝓤 𝓛.H 𝓛.laws 𝓣) callee κs.0 κs.1.0 κs.1.1.0 qs.0 qs.1.0 qs.1.1.0 z.0.2.0 within handle.ref_ptr.0 handle.ref_ptr.1
+    handle.now len vs.0 vs.1.0)))
 
 pub allocate_spec : {M : Type 1} → stated.statement M
 unfolding tables_of
 allocate_spec 𝓤 𝓛 𝓜 𝓡 wired X W LX LW g d dd met md =
     let E : El = record { row = X; laws = LX } in let Z : Al = record { row = W; laws = LW; g = g; d = d; drops = dd } in
     let 𝓣 : Tables 𝓤 𝓛.H = tables_of 𝓤 𝓛.H 𝓜 (tables 𝓤 𝓛.H 𝓜 𝓡 𝓡.env) in
-    entered 𝓤 𝓛.H (triple_of 𝓛 (ended E Z).signature (contract.spec X W g d dd 𝓛 𝓜.mem 𝓡.returns)) 𝓣.C 𝓣.Λ (#self (pair E Z)) (function E Z) (code.unfolded 𝓤 𝓛.H 𝓜 𝓡 wired (X, (W, tt)) d dd)
+    entered 𝓤 𝓛.H (triple_of 𝓛 (ended E Z).signature (contract.spec X W g d dd 𝓛 𝓜.mem 𝓡.returns)) 𝓣.C 𝓣.Λ (#self (pair E Z)) (function E Z)
+    (code.unfolded 𝓤 𝓛.H 𝓜 𝓡 wired (X, (W, tt)) d dd)
     (meets E Z 𝓛 𝓜.mem 𝓡.returns 𝓣 (met.allocate dd))

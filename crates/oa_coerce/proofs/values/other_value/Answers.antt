@@ -1,7 +1,7 @@
 use Rattle.std.proofs.Common.{ap}
-use Rattle.oa_variant.specs.Scalars.{type_of}
+use Rattle.oa_variant.specs.promise.Scalars.{type_of}
 use Rattle.oa_variant.specs.declared.variant.Variant.TheVariants.{One}
-use Rattle.oa_coerce.specs.Coercions.{rule_for}
+use Rattle.oa_coerce.specs.promise.Coercions.{rule_for}
 use Rattle.oa_coerce.proofs.Lifted.{lifted, refused_too}
 use Rattle.oa_coerce.proofs.values.other_value.Goals as goal
 

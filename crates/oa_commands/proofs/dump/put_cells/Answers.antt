@@ -19,14 +19,16 @@ pub returns-in_err-put_place-clause-broken : goal.returns-in_err-put_place-claus
 returns-in_err-put_place-clause-broken g c =
     let p = err_from_is_err_and c.from_residual.result c.from_residual.ensures.1 in
     rw (p.1, p.2) (c.cells.invariant.off _ _
-    (first_off cell_line c.cells.place-iterator c.next.new.self (c.in-Some.place.now, c.in-Some.value.now) (cell_place c.in-Some.place.now) (value_digits c.in-Some.value.now) (search rules) refl _ _ _
+    (first_off cell_line c.cells.place-iterator c.next.new.self (c.in-Some.place.now, c.in-Some.value.now) (cell_place c.in-Some.place.now)
+    (value_digits c.in-Some.value.now) (search rules) refl _ _ _
     c.in_err-put_place.ensures.broken))
 
 pub returns-in_err-put_value-clause-broken : goal.returns-in_err-put_value-clause-broken
 returns-in_err-put_value-clause-broken g c =
     let p = err_from_is_err_and c.from_residual-in_err-put_value.result c.from_residual-in_err-put_value.ensures.1 in
     rw (p.1, p.2) (c.cells.invariant.off _ _
-    (second_off cell_line c.cells.place-iterator c.next.new.self (c.in-Some.place.now, c.in-Some.value.now) (cell_place c.in-Some.place.now) (value_digits c.in-Some.value.now) (search rules) refl _ _ _ _
+    (second_off cell_line c.cells.place-iterator c.next.new.self (c.in-Some.place.now, c.in-Some.value.now) (cell_place c.in-Some.place.now)
+    (value_digits c.in-Some.value.now) (search rules) refl _ _ _ _
     c.in_ok-put_place.ensures.written c.in_err-put_value.ensures.broken))
 
 pub returns-clause-written : goal.returns-clause-written

@@ -1,6 +1,6 @@
 use Rattle.std.proofs.Common.{◌≡◌, false}
 use Rattle.std.specs.List.{flat_map}
-use Rattle.oa_stream.specs.Sink.{Output, Writes}
+use Rattle.oa_stream.specs.promise.Sink.{Output, Writes}
 use Rattle.oa_commands.specs.Dumps.{BreaksOff, cell_line}
 use Rattle.oa_commands.specs.declared.fault.Fault.{Fault}
 use Rattle.oa_commands.proofs.dump.put_cells.Given as goal

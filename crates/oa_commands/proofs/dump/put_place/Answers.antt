@@ -16,7 +16,9 @@ returns-in_err-put-clause-broken g c =
     rw (p.1, p.2) (breaks_before _ _ (cell_start c.args.place.now.interface c.args.place.now.dispid) (key_digits c.args.place.now.key) (search rules))
 
 pub returns-clause-written : goal.returns-clause-written
-returns-clause-written g c = then_if c.put_key.result _ (g.W.Sink.out c.put.new.self) _ (cell_start c.args.place.now.interface c.args.place.now.dispid) (key_digits c.args.place.now.key) (search rules) (search rules)
+returns-clause-written g c = then_if c.put_key.result _ (g.W.Sink.out c.put.new.self) _ (cell_start c.args.place.now.interface c.args.place.now.dispid)
+    (key_digits c.args.place.now.key) (search rules) (search rules)
 
 pub returns-clause-broken : goal.returns-clause-broken
-returns-clause-broken g c = then_off c.put_key.result _ (g.W.Sink.out c.put.new.self) _ (cell_start c.args.place.now.interface c.args.place.now.dispid) (key_digits c.args.place.now.key) (search rules) (rw c.key.ensures.value at c.put_key.ensures.broken)
+returns-clause-broken g c = then_off c.put_key.result _ (g.W.Sink.out c.put.new.self) _ (cell_start c.args.place.now.interface c.args.place.now.dispid)
+    (key_digits c.args.place.now.key) (search rules) (rw c.key.ensures.value at c.put_key.ensures.broken)

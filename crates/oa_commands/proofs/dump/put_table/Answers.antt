@@ -32,7 +32,8 @@ objects-preserved g c = record {
       (goes_on object_lines c.objects.number-iterator c.next-in-objects.new.self (c.in-Some.number.now, c.in-Some.object.now) _ _ _ end _ _ (search rules) refl
       c.in_ok-put_object.ensures.written c.in_ok-put_cells.ensures.written rest);
   off = λ fault end rest. c.objects.invariant.off fault end
-      (later_off object_lines c.objects.number-iterator c.next-in-objects.new.self (c.in-Some.number.now, c.in-Some.object.now) _ _ (search rules) refl fault _ _ _ end
+      (later_off object_lines c.objects.number-iterator c.next-in-objects.new.self (c.in-Some.number.now, c.in-Some.object.now) _ _
+      (search rules) refl fault _ _ _ end
       c.in_ok-put_object.ensures.written c.in_ok-put_cells.ensures.written rest);
 }
 

@@ -1,5 +1,5 @@
 use Rattle.std.proofs.Common.{◌≡◌, false}
-use Rattle.oa_stream.specs.Sink.{Output, Writes}
+use Rattle.oa_stream.specs.promise.Sink.{Output, Writes}
 use Rattle.std.specs.List.{flat_map}
 use Rattle.oa_commands.specs.Dumps.{BreaksOff, object_lines, table_lines}
 use Rattle.oa_commands.specs.declared.fault.Fault.{Fault}

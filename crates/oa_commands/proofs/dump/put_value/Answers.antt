@@ -2,7 +2,7 @@ use Rattle.std.proofs.Common.{rules, ◌++◌}
 use Rattle.std.specs.Prelude.{codes}
 use Rattle.std.proofs.lemmas.Result.{err_from_is_err_and}
 use Rattle.hex.specs.Hex.{encode_lower}
-use Rattle.oa_layout.specs.Variants.{value as a_value}
+use Rattle.oa_formats.specs.promise.Variants.{value as a_value}
 use Rattle.oa_stream.proofs.Stretches.{breaks_after, breaks_before}
 use Rattle.oa_commands.specs.Dumps.{value_digits}
 use Rattle.oa_commands.proofs.Dumped.{nothing_put, three}

@@ -1,7 +1,8 @@
 use Rattle.std.proofs.Common.{◌≡◌, ◌-◌, ◌≤◌, ap, arith, sym}
 use Rattle.std.proofs.lemmas.Bool.{le-ltb}
-use Rattle.oa_image.specs.Tables.{reserved_bytes}
-use Rattle.oa_table.specs.Sizes.{size_due, table_size}
+use Rattle.oa_image.specs.promise.Tables.{reserved_bytes}
+use Rattle.oa_table.specs.Sizes.{size_due}
+use Rattle.oa_table.specs.promise.Sizes.{table_size}
 use Rattle.oa_decision.proofs.limits.is_too_large.Goals as goal
 
 pub returns-then-has_surely_room : goal.returns-then-has_surely_room

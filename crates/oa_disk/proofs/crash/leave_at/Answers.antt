@@ -24,4 +24,12 @@ tear_all-requires-clause-written c =
     let calls = c.args.calls.now in
     let s = c.last_sync-synced.result in
     let b = c.in_ok-from.from in
-    omega (arith, count_parts calls s, count_parts (drop s calls) (c.div_ceil-begun.result - s), c.requires.written, c.in_ok-from.ensures.count, ap length (take_rest c.args.written.now b), length-drop b c.args.written.now)
+    omega (
+      arith,
+      count_parts calls s,
+      count_parts (drop s calls) (c.div_ceil-begun.result - s),
+      c.requires.written,
+      c.in_ok-from.ensures.count,
+      ap length (take_rest c.args.written.now b),
+      length-drop b c.args.written.now,
+    )

@@ -1,6 +1,6 @@
 use Rattle.std.proofs.Common.{◌+◌, ◌≤◌, length, drop, refl, sym, ◌∙◌, arith}
 use Rattle.oa_disk.specs.declared.call.DeviceCall.TheVariants.{Write}
-use Rattle.oa_disk.specs.Replay.{count_all}
+use Rattle.oa_disk.specs.promise.Disk.{count_all}
 use Rattle.oa_disk.proofs.Steps.{count_step, count_other, replay_write, replay_other}
 use Rattle.oa_disk.proofs.crash.replay.Goals as goal
 use Rattle.oa_disk.proofs.crash.replay.Goals.{in-Write+in_ok-put, in_default}
@@ -16,7 +16,9 @@ loop-call-preserved c =
     let fits : from + count_all (drop i calls) ≤ length written = omega (arith, was.count, c.requires.written) in
     elim c.match-call.branch [
       | in-Write+in_ok-put w ↦ record {
-        contents = rw (w.disk-is, w.from-is) (replay_write calls written i from lt fits w.in-Write.at w.in-Write.count _ _ w.in-Write.is w.in_ok-put.ensures.bytes ∙ was.contents);
+        contents =
+            rw (w.disk-is, w.from-is) (replay_write calls written i from lt fits w.in-Write.at w.in-Write.count _ _ w.in-Write.is w.in_ok-put.ensures.bytes
+            ∙ was.contents);
         size = rw w.disk-is (w.put.ensures.size ∙ was.size);
         count = sym (count_step calls written i from lt (Write w.in-Write.at w.in-Write.count) c.match-call.from w.in-Write.is w.from-is) ∙ was.count;
       }

@@ -1,6 +1,6 @@
 use Rattle.std.proofs.Common.{◌+◌, ◌≤◌, length, drop, refl, sym, ◌∙◌, arith}
 use Rattle.oa_disk.specs.declared.call.DeviceCall.TheVariants.{Write}
-use Rattle.oa_disk.specs.Replay.{count_all}
+use Rattle.oa_disk.specs.promise.Disk.{count_all}
 use Rattle.oa_disk.proofs.Steps.{count_step, count_other, torn_write, torn_other}
 use Rattle.oa_disk.proofs.crash.tear_all.Goals as goal
 use Rattle.oa_disk.proofs.crash.tear_all.Goals.{in-Write+in_ok-tear_range, in_default}
@@ -16,7 +16,9 @@ loop-call-preserved c =
     let fits : from + count_all (drop i calls) ≤ length written = omega (arith, was.count, c.requires.written) in
     elim c.match-call.branch [
       | in-Write+in_ok-tear_range w ↦ record {
-        torn = rw (w.disk-is, w.from-is, w.tear-is) (torn_write calls written i from lt fits w.in-Write.at w.in-Write.count c.loop-call.tear _ _ _ w.in-Write.is w.in_ok-tear_range.ensures.bytes w.in_ok-tear_range.ensures.rest ∙ was.torn);
+        torn =
+            rw (w.disk-is, w.from-is, w.tear-is) (torn_write calls written i from lt fits w.in-Write.at w.in-Write.count c.loop-call.tear _ _ _ w.in-Write.is
+            w.in_ok-tear_range.ensures.bytes w.in_ok-tear_range.ensures.rest ∙ was.torn);
         size = rw w.disk-is (w.tear_range.ensures.size ∙ was.size);
         count = sym (count_step calls written i from lt (Write w.in-Write.at w.in-Write.count) c.match-call.from w.in-Write.is w.from-is) ∙ was.count;
       }

@@ -1,7 +1,6 @@
 use Rattle.std.proofs.Common.{◌≡◌, ◌+◌, drop}
-use Rattle.oa_disk.specs.Ledger.{laid}
-use Rattle.oa_disk.specs.Replay.{count_all}
-use Rattle.oa_disk.specs.Tear.{torn_all}
+use Rattle.oa_disk.specs.promise.CallLog.{laid}
+use Rattle.oa_disk.specs.promise.Disk.{count_all, torn_all}
 use Rattle.oa_disk.proofs.crash.tear_all.Given as goal
 
 abbrev pub invariant-loop-call : goal.invariant-loop-call

@@ -1,6 +1,7 @@
 use Rattle.std.proofs.Common.{◌≡◌, ◌+◌, List, ℕ, length, drop}
 use Rattle.oa_disk.specs.Disk.{HasBytesAt}
-use Rattle.oa_disk.specs.Replay.{AllInside, count_all}
+use Rattle.oa_disk.specs.Replay.{AllInside}
+use Rattle.oa_disk.specs.promise.Disk.{count_all}
 use Rattle.oa_disk.proofs.Laid.{IsMade}
 use Rattle.oa_disk.proofs.layers.overlay.Given as goal
 

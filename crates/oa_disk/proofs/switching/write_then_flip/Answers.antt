@@ -24,7 +24,8 @@ returns-clause-any_moment g c h =
     let bytes = c.args.bytes.now in
     let P : List ℕ → Type 0 = λ f. (d : List ℕ) × g.D.Disk.image c.args.disk.now d × MaySwitch at bytes c.args.switch d f in
     let at_start = started M S c.args.disk.now P (λ f left. (f, g.met.D.Disk.only_now c.args.disk.now f h left, inl (Torn_refl at (length bytes) f))) in
-    let still : (f : List ℕ) → g.D.Disk.image c.write_at.new.self f → P f = λ f now. let from = (c.write_at.ensures.writes h).images f now in (from.0, from.1, inl from.2) in
+    let still : (f : List ℕ) → g.D.Disk.image c.write_at.new.self f → P f = λ f now. let from = (c.write_at.ensures.writes h).images f now in
+    (from.0, from.1, inl from.2) in
     let run = goes_on M S c.args.disk.now c.args.disk.now c.write_at.new.self P _ at_start (c.write_at.ensures.time h) still in
     let h1 = c.write_at.ensures.honest ∙ h in
     let mid = g.D.Disk.contents c.write_at.new.self in

@@ -22,7 +22,8 @@ rest-preserved c =
       within = omega (arith, left, whole);
       whole = omega (arith, left, whole);
       len = search rules;
-      good = λ h. c.decode_block-all.ensures.some (and_parts c.rest.good c.decode_block-all.result h).1 (c.rest.invariant.good (and_parts c.rest.good c.decode_block-all.result h).0);
+      good = λ h. c.decode_block-all.ensures.some (and_parts c.rest.good c.decode_block-all.result h).1
+          (c.rest.invariant.good (and_parts c.rest.good c.decode_block-all.result h).0);
       bad = λ h. elim (either_fails c.rest.good c.decode_block-all.result h) [
         | inl before ↦ c.rest.invariant.bad before
         | inr now ↦ bad_among c.args.line.now _ c.args.count (omega (arith, left, whole)) (c.decode_block-all.ensures.none now)

@@ -9,15 +9,19 @@ pairs-init c = record { len = refl; good = λ _ k below i. absurd (omega (arith,
 
 pub pairs-preserved : goal.pairs-preserved
 pairs-preserved c =
-    let room : c.pairs.i < length c.pairs.buffer = let below = c.pairs-test.true in let same = c.pairs.invariant.len in let enough = c.requires.room in omega (arith, below, same, enough) in
+    let room : c.pairs.i < length c.pairs.buffer = let below = c.pairs-test.true in let same = c.pairs.invariant.len in let enough = c.requires.room in
+    omega (arith, below, same, enough) in
     record {
       len = search rules;
-      good = few_more c.args.line.now c.pairs.buffer c.pairs.i c.pair-byte.result.0 c.pairs.good c.pair-byte.result.1 room c.pair-byte.ensures.some c.pairs.invariant.good;
+      good = few_more c.args.line.now c.pairs.buffer c.pairs.i c.pair-byte.result.0 c.pairs.good c.pair-byte.result.1 room c.pair-byte.ensures.some
+          c.pairs.invariant.good;
       bad = few_bad c.args.line.now c.pairs.i c.pairs.good c.pair-byte.result.1 c.pair-byte.ensures.none c.pairs.invariant.bad;
     }
 
 pub returns-clause-some : goal.returns-clause-some
-returns-clause-some c = λ h. subst (AreDecoded c.args.line.now c.pairs.buffer) (let over = c.pairs-test.false in let end = c.pairs.auto.i-end in omega (arith, over, end)) (c.pairs.invariant.good h)
+returns-clause-some c = λ h. subst (AreDecoded c.args.line.now c.pairs.buffer)
+    (let over = c.pairs-test.false in let end = c.pairs.auto.i-end in omega (arith, over, end)) (c.pairs.invariant.good h)
 
 pub returns-clause-none : goal.returns-clause-none
-returns-clause-none c = λ h. subst (HasBadPair c.args.line.now) (let over = c.pairs-test.false in let end = c.pairs.auto.i-end in omega (arith, over, end)) (c.pairs.invariant.bad h)
+returns-clause-none c = λ h. subst (HasBadPair c.args.line.now) (let over = c.pairs-test.false in let end = c.pairs.auto.i-end in omega (arith, over, end))
+    (c.pairs.invariant.bad h)

@@ -1,6 +1,6 @@
 use Rattle.oa_frame.specs.declared.framing.Framing.{Framing}
 use Rattle.oa_frame.specs.declared.framing.Framing.TheVariants.{HexLines, Records}
-use Rattle.oa_frame.specs.Framings.{frames}
+use Rattle.oa_frame.specs.promise.Framings.{frames}
 use Rattle.oa_frame.proofs.OneReading.{IsDecided, one_end}
 use Rattle.oa_frame.proofs.OneLines.{lines_decided}
 use Rattle.oa_frame.proofs.OneRecords.{records_decided}

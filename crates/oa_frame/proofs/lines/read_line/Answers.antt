@@ -6,17 +6,21 @@ use Rattle.oa_frame.proofs.lines.read_line.Goals.{in-Some+in-Part-take_piece, in
 use Rattle.oa_frame.proofs.lines.read_line.Goals as goal
 
 pub returns-in-TooLong-clause-found : goal.returns-in-TooLong-clause-found
-returns-in-TooLong-clause-found g c = taken_long _ _ _ _ c.clear.new.self.items _ _ (rw c.clear.ensures.items (search rules)) (rw c.clear.ensures.items (search rules)) c.in-TooLong.ensures.piece
+returns-in-TooLong-clause-found g c = taken_long _ _ _ _ c.clear.new.self.items _ _ (rw c.clear.ensures.items (search rules))
+    (rw c.clear.ensures.items (search rules)) c.in-TooLong.ensures.piece
 
 pub returns-in-Whole-take_piece-clause-found : goal.returns-in-Whole-take_piece-clause-found
 returns-in-Whole-take_piece-clause-found g c =
     let taken = Consumes-kept _ _ _ c.calls.line.items c.calls.invariant.taken c.more.ensures.kept in
-    rw c.whole-in-Whole-take_piece.ensures.found (taken_whole _ _ _ _ c.calls.line.items _ _ _ c.calls.invariant.free taken c.in-Whole-take_piece.ensures.piece c.whole-in-Whole-take_piece.ensures.line)
+    rw c.whole-in-Whole-take_piece.ensures.found
+    (taken_whole _ _ _ _ c.calls.line.items _ _ _ c.calls.invariant.free taken c.in-Whole-take_piece.ensures.piece c.whole-in-Whole-take_piece.ensures.line)
 
 pub returns-in-Whole-take_piece-clause-paced : goal.returns-in-Whole-take_piece-clause-paced
 returns-in-Whole-take_piece-clause-paced g c =
     let p = c.in-Whole-take_piece.ensures.piece in
-    rw c.whole-in-Whole-take_piece.ensures.found (paced _ _ (c.calls.counter + 1) (search rules) (p.clock ∙ later_more c.calls.counter _ _ _ c.calls.invariant.clock c.more.ensures.clock) (p.fault ∙ (rw c.in-Some.is at c.more.ensures.fault)) (λ s. p.steady ∙ c.more.ensures.steady (c.calls.invariant.steady s)))
+    rw c.whole-in-Whole-take_piece.ensures.found
+    (paced _ _ (c.calls.counter + 1) (search rules) (p.clock ∙ later_more c.calls.counter _ _ _ c.calls.invariant.clock c.more.ensures.clock)
+    (p.fault ∙ (rw c.in-Some.is at c.more.ensures.fault)) (λ s. p.steady ∙ c.more.ensures.steady (c.calls.invariant.steady s)))
 
 pub returns-in-TooLong-take_piece-clause-found : goal.returns-in-TooLong-take_piece-clause-found
 returns-in-TooLong-take_piece-clause-found g c =
@@ -26,19 +30,24 @@ returns-in-TooLong-take_piece-clause-found g c =
 pub returns-in-TooLong-take_piece-clause-paced : goal.returns-in-TooLong-take_piece-clause-paced
 returns-in-TooLong-take_piece-clause-paced g c =
     let p = c.in-TooLong-take_piece.ensures.piece in
-    paced _ _ (c.calls.counter + 1) (search rules) (p.clock ∙ later_more c.calls.counter _ _ _ c.calls.invariant.clock c.more.ensures.clock) (p.fault ∙ (rw c.in-Some.is at c.more.ensures.fault)) (λ s. p.steady ∙ c.more.ensures.steady (c.calls.invariant.steady s))
+    paced _ _ (c.calls.counter + 1) (search rules) (p.clock ∙ later_more c.calls.counter _ _ _ c.calls.invariant.clock c.more.ensures.clock)
+    (p.fault ∙ (rw c.in-Some.is at c.more.ensures.fault)) (λ s. p.steady ∙ c.more.ensures.steady (c.calls.invariant.steady s))
 
 pub returns-in-End-clause-found : goal.returns-in-End-clause-found
 returns-in-End-clause-found g c =
     let taken = Consumes-kept _ _ _ c.calls.line.items c.calls.invariant.taken c.more.ensures.kept in
-    known_end c.ended.result _ _ c.calls.line.items (rw c.deref.ensures.value at c.ended.ensures) c.calls.invariant.free taken (rw c.in-End.is at c.more.ensures.brings).1
+    known_end c.ended.result _ _ c.calls.line.items (rw c.deref.ensures.value at c.ended.ensures) c.calls.invariant.free taken
+    (rw c.in-End.is at c.more.ensures.brings).1
 
 pub returns-in-End-clause-paced : goal.returns-in-End-clause-paced
 returns-in-End-clause-paced g c =
-    rw (keeps_no_loss c.ended.result _ c.ended.ensures) (paced _ _ (c.calls.counter + 1) (search rules) (later_more c.calls.counter _ _ _ c.calls.invariant.clock c.more.ensures.clock) (rw c.in-End.is at c.more.ensures.fault) (λ s. c.more.ensures.steady (c.calls.invariant.steady s)))
+    rw (keeps_no_loss c.ended.result _ c.ended.ensures)
+    (paced _ _ (c.calls.counter + 1) (search rules) (later_more c.calls.counter _ _ _ c.calls.invariant.clock c.more.ensures.clock)
+    (rw c.in-End.is at c.more.ensures.fault) (λ s. c.more.ensures.steady (c.calls.invariant.steady s)))
 
 pub returns-in-Fault-clause-found : goal.returns-in-Fault-clause-found
-returns-in-Fault-clause-found g c = known_part _ _ c.calls.line.items c.calls.line.items c.calls.invariant.free (Consumes-kept _ _ _ c.calls.line.items c.calls.invariant.taken c.more.ensures.kept)
+returns-in-Fault-clause-found g c = known_part _ _ c.calls.line.items c.calls.line.items c.calls.invariant.free
+    (Consumes-kept _ _ _ c.calls.line.items c.calls.invariant.taken c.more.ensures.kept)
 
 pub returns-in-Fault-clause-paced : goal.returns-in-Fault-clause-paced
 returns-in-Fault-clause-paced g c = record {

@@ -1,8 +1,8 @@
 use Rattle.std.proofs.Common.{◌≡◌, ◌+◌, ◌≤◌, true, false}
 use Rattle.std.specs.Prelude.{vec_capacity}
-use Rattle.oa_model.specs.Limits.{max_request_bytes, max_line_characters}
-use Rattle.oa_stream.specs.Ahead.{ahead}
-use Rattle.oa_frame.specs.Framings.{frames}
+use Rattle.oa_model.specs.promise.Limits.{max_request_bytes, max_line_characters}
+use Rattle.oa_stream.specs.BufferedSource.{ahead}
+use Rattle.oa_frame.specs.promise.Framings.{frames}
 use Rattle.oa_frame.specs.Sessions.{step}
 use Rattle.oa_frame.proofs.Sessions.{SessionSoFar}
 use Rattle.oa_frame.proofs.session.serve.Given as goal
@@ -16,5 +16,6 @@ invariant-turns g l = record {
   unbroken : (ahead g.R.Source.input l.reader).faulted ≡ false;
   unbroken_writer : (g.W.Sink.out l.writer).broken ≡ false;
   steady : (ahead g.R.Source.input l.fn.reader).steady ≡ true → (ahead g.R.Source.input l.reader).steady ≡ true;
-  going : SessionSoFar (frames l.framing) g.S.Responder.alone (step g.S.Responder.alone g.S.Responder.turn g.S.Responder.ends) (ahead g.R.Source.input l.fn.reader) (ahead g.R.Source.input l.reader) (g.W.Sink.out l.fn.writer) (g.W.Sink.out l.writer) l.fn.server l.server l.requests;
+  going : SessionSoFar (frames l.framing) g.S.Responder.barrier (step g.S.Responder.barrier g.S.Responder.turn g.S.Responder.ends)
+      (ahead g.R.Source.input l.fn.reader) (ahead g.R.Source.input l.reader) (g.W.Sink.out l.fn.writer) (g.W.Sink.out l.writer) l.fn.server l.server l.requests;
 }

@@ -6,10 +6,12 @@ use Rattle.oa_frame.proofs.writing.encode.Goals as goal
 
 pub bytes-preserved : goal.bytes-preserved
 bytes-preserved c =
-    let room : 2 * c.bytes.i + 1 < length c.bytes.digits = let below = c.bytes-test.true in let same = c.bytes.invariant.len in let enough = c.requires in omega (arith, below, same, enough) in
+    let room : 2 * c.bytes.i + 1 < length c.bytes.digits = let below = c.bytes-test.true in let same = c.bytes.invariant.len in let enough = c.requires in
+    omega (arith, below, same, enough) in
     record {
       len = search rules;
-      digits = encode_step lower_digits c.args.piece.now c.bytes.digits c.bytes.i _ _ (omega arith) room c.digit.ensures c.digit-in-bytes.ensures c.bytes.invariant.digits;
+      digits = encode_step lower_digits c.args.piece.now c.bytes.digits c.bytes.i _ _ (omega arith) room c.digit.ensures c.digit-in-bytes.ensures
+          c.bytes.invariant.digits;
     }
 
 pub returns-clause-digits : goal.returns-clause-digits

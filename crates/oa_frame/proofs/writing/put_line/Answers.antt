@@ -1,7 +1,8 @@
 use Rattle.std.proofs.Common.{[], ◌∷◌, ◌++◌, subst, sym}
 use Rattle.std.proofs.lemmas.Result.{err_from_is_err_and}
 use Rattle.hex.specs.Hex.{encode_lower}
-use Rattle.oa_stream.specs.Sink.{Breaks, Puts}
+use Rattle.oa_stream.specs.promise.Sink.{Breaks}
+use Rattle.oa_stream.specs.Sink.{Puts}
 use Rattle.oa_stream.proofs.Stretches.{breaks_before, puts_then}
 use Rattle.oa_frame.proofs.HexDigits.{hex_two}
 use Rattle.oa_frame.proofs.writing.put_line.Goals as goal

@@ -1,6 +1,6 @@
 use Rattle.std.proofs.Common.{◌≡◌, ◌<◌, ◌≤◌, ◌+◌, ◌-◌, ℕ, [], length, min, take, drop, ap, ◌∙◌, arith}
 use Rattle.std.proofs.lemmas.List.{length-drop, length-take-le}
-use Rattle.oa_share.specs.Frames.{frame_of, max_frame_bytes}
+use Rattle.oa_mux.specs.promise.Frames.{frame_of, max_frame_bytes}
 use Rattle.oa_gateway.proofs.Spelling.{frame_length, mid_length, more_bytes, no_bytes, room_first, room_next}
 use Rattle.oa_gateway.proofs.frames.put_bytes.Goals as goal
 
@@ -28,10 +28,12 @@ frames-preserved c =
     let frame = c.put_frame.ensures ∙ ap (λ k. frame_of c.args.number (take k (drop done bytes))) same in
     let behind = length-drop done bytes in
     let long : length c.put_frame.new.out ≡ 8 + count =
-    ap length frame ∙ frame_length c.args.number (take count (drop done bytes)) ∙ ap (λ n. 8 + n) (length-take-le count (drop done bytes) (omega (arith, behind, left))) in
+    ap length frame ∙ frame_length c.args.number (take count (drop done bytes))
+    ∙ ap (λ n. 8 + n) (length-take-le count (drop done bytes) (omega (arith, behind, left))) in
     let all = mid_length at (at + 8 + count - at) c.frames.out c.put_frame.new.out (omega (arith, next)) (omega (arith, long)) in
     record {
       within = omega (arith, left, more);
       room = omega (arith, next, all);
-      spells = more_bytes c.frames_are_read.ensures.bytes c.args.number at count done _ c.frames.out bytes c.put_frame.new.out c.requires some short left frame (omega (arith, next)) c.frames.invariant.spells;
+      spells = more_bytes c.frames_are_read.ensures.bytes c.args.number at count done _ c.frames.out bytes c.put_frame.new.out c.requires some short left frame
+          (omega (arith, next)) c.frames.invariant.spells;
     }

@@ -1,5 +1,5 @@
 use Rattle.std.proofs.Common.{◌≤◌, ◌-◌, ℕ, List, length, take}
-use Rattle.oa_gateway.specs.Requests.{AreRequests}
+use Rattle.oa_gateway.specs.WholeRequests.{AreRequests}
 use Rattle.oa_gateway.proofs.requests.find_requests.Given as goal
 
 abbrev pub invariant-requests : goal.invariant-requests

@@ -1,21 +1,23 @@
 use Rattle.std.proofs.Common.{List, ℕ, ◌+◌, ◌≤◌, length, true≢false, refl, sym, ◌∙◌, ap, subst}
 use Rattle.std.proofs.lemmas.Result.{err_from_is_err_and}
-use Rattle.oa_disk.specs.Memory.{contents_of, moments_of}
-use Rattle.oa_canonical.specs.Canonical.{canonical}
-use Rattle.oa_image.specs.Tables.{FitsBank}
-use Rattle.oa_journal.specs.declared.shape.Shape.TheVariants.{Two}
-use Rattle.oa_turn.specs.Events.{held_of}
-use Rattle.oa_store.specs.Stores.{IsStoreAt, IsStoreIn}
+use Rattle.oa_disk.specs.promise.Memory.{memory_contents, moments_of}
+use Rattle.oa_printer.specs.promise.Canonical.{canonical}
+use Rattle.oa_image.specs.promise.Tables.{FitsBank}
+use Rattle.oa_journal.specs.declared.shape.BankFormat.TheVariants.{Two}
+use Rattle.oa_turn.specs.promise.Events.{held_of}
+use Rattle.oa_store.specs.promise.Stores.{IsStoreAt, IsStoreIn}
 use Rattle.oa_history.proofs.Switched.{fits}
 use Rattle.oa_history.proofs.checkpointing.opened_store.Goals as goal
 
 pub returns-in_err-library-clause-wanting : goal.returns-in_err-library-clause-wanting
-returns-in_err-library-clause-wanting c = let p = err_from_is_err_and c.from_residual.result c.from_residual.ensures.1 in rw (p.1, p.2) (λ state kept. c.in_err-library.ensures.wanting state kept.holds kept.begins.checked)
+returns-in_err-library-clause-wanting c = let p = err_from_is_err_and c.from_residual.result c.from_residual.ensures.1 in
+    rw (p.1, p.2) (λ state kept. c.in_err-library.ensures.wanting state kept.holds kept.begins.checked)
 
 pub returns-in-Err-clause-wanting : goal.returns-in-Err-clause-wanting
 returns-in-Err-clause-wanting c state kept r =
     let text = c.text.ensures.text ∙ ap canonical (c.in_ok-library.ensures.kept state kept.holds kept.begins.checked) in
-    c.in-Err.ensures.refused.refused r refl (held_of state) (state.bank, subst (λ (l : List ℕ). IsStoreIn (Two state.bank) (contents_of c.args.disk) l (held_of state)) (sym text) kept.holds)
+    c.in-Err.ensures.refused.refused r refl (held_of state)
+    (state.bank, subst (λ (l : List ℕ). IsStoreIn (Two state.bank) (memory_contents c.args.disk) l (held_of state)) (sym text) kept.holds)
 
 pub returns-then-not-fits_bank-clause-wanting : goal.returns-then-not-fits_bank-clause-wanting
 returns-then-not-fits_bank-clause-wanting c state kept r =
@@ -30,10 +32,13 @@ returns-clause-opened c =
     let table = c.in-Ok.found.1 in
     let starts = c.in-Ok.ensures.starts in
     record {
-      contents = subst (λ (l : List ℕ). IsStoreAt store.bank.shape store.chosen store.bank.gate l table (contents_of c.args.disk)) (sym starts.has) (c.in-Ok.ensures.found.contents refl);
-      found = λ image is. subst (λ (l : List ℕ). IsStoreAt store.bank.shape store.chosen store.bank.gate l table image) (sym starts.has) (c.in-Ok.ensures.found.found refl image is);
+      contents = subst (λ (l : List ℕ). IsStoreAt store.bank.shape store.chosen store.bank.gate l table (memory_contents c.args.disk)) (sym starts.has)
+          (c.in-Ok.ensures.found.contents refl);
+      found = λ image is. subst (λ (l : List ℕ). IsStoreAt store.bank.shape store.chosen store.bank.gate l table image) (sym starts.has)
+          (c.in-Ok.ensures.found.found refl image is);
       unlocked = starts.unlocked;
       numbered = starts.numbered;
       reads = c.in-Ok.ensures.reads refl;
-      calls = λ honest. subst (λ (l : List ℕ). moments_of store.disk + length l ≤ moments_of c.args.disk + (20 + store.bank.gate)) (sym starts.has) (c.in-Ok.ensures.found.calls honest);
+      calls = λ honest. subst (λ (l : List ℕ). moments_of store.disk + length l ≤ moments_of c.args.disk + (20 + store.bank.gate)) (sym starts.has)
+          (c.in-Ok.ensures.found.calls honest);
     }

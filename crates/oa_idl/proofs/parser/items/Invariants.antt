@@ -1,5 +1,5 @@
 use Rattle.std.proofs.Common.{◌-◌, ◌≤◌}
-use Rattle.oa_idl.specs.Grammar.{no_items}
+use Rattle.oa_idl.specs.promise.Grammar.{no_items}
 use Rattle.oa_idl.proofs.Loop.{ItemsRead, so_far_read}
 use Rattle.oa_idl.proofs.parser.items.Given as goal
 

@@ -1,12 +1,13 @@
 use Rattle.std.proofs.Common.{◌≡◌, ℕ, ◌+◌, ◌≤◌, List, ◌++◌, length, take, drop, refl, ◌∙◌, ap, arith}
 use Rattle.std.proofs.Math.Seq.{take-length}
-use Rattle.oa_layout.specs.Windows.{Adds}
-use Rattle.oa_layout.specs.declared.window.Window.{Window}
-use Rattle.oa_layout.proofs.Adding.{gave}
+use Rattle.oa_formats.specs.Windows.{Adds}
+use Rattle.oa_formats.specs.declared.window.OutputCursor.{OutputCursor}
+use Rattle.oa_formats.proofs.Adding.{gave}
 use Rattle.oa_image.proofs.event.write_event.Goals as goal
 
 -- bytes of which none is left out and for all of which there is room
-laid : (old new : Window) (before after bytes : List ℕ) (start : ℕ) → Adds bytes old new before after → old.skip ≡ 0 → old.at ≡ start → start + length bytes ≤ length before
+laid : (old new : OutputCursor) (before after bytes : List ℕ) (start : ℕ) → Adds bytes old new before after → old.skip ≡ 0 → old.at ≡ start
+    → start + length bytes ≤ length before
     → after ≡ take start before ++ (bytes ++ drop (start + length bytes) before)
 laid old new before after bytes start adds none at room =
     let text : drop old.skip bytes ≡ bytes = ap (λ (n : ℕ). drop n bytes) none in

@@ -1,7 +1,7 @@
 use Rattle.std.proofs.Common.{◌<◌, ◌^◌, length, map}
 use Rattle.std.specs.List.{AllByRecursion, flat_map}
-use Rattle.oa_table.specs.Tables.{unlocked_entry}
-use Rattle.oa_image.specs.Tables.{object}
+use Rattle.oa_table.specs.promise.Tables.{unlocked_entry}
+use Rattle.oa_image.specs.promise.Tables.{object}
 use Rattle.oa_image.proofs.laws.are_objects.Given as goal
 
 -- if it is true of those that are left, it is true of all

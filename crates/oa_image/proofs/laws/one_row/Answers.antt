@@ -1,6 +1,6 @@
 use Rattle.std.proofs.Common.{sym, ◌∙◌}
-use Rattle.oa_layout.proofs.Exact.{one_list}
-use Rattle.oa_image.specs.Events.{event}
+use Rattle.oa_formats.proofs.Exact.{one_list}
+use Rattle.oa_image.specs.promise.Events.{event}
 use Rattle.oa_image.proofs.Lengths.{event_bytes}
 use Rattle.oa_image.proofs.laws.one_row.Goals as goal
 

@@ -18,4 +18,9 @@ pub returns : goal.returns
 returns c =
     let found = rw c.in-Some.is at c.in_ok-next.ensures in
     let some : 0 < c.in-Some.next = omega (arith, c.if-next-eq0.false) in
-    rw c.with_next.ensures ((begun_is c.in-Some.next c.in-Some.left found.0 some, tt), found.2, begun_taken c.in-Some.next c.in-Some.left (take c.in-Some.len c.args.bytes.now) found.3)
+    rw c.with_next.ensures (
+      (begun_is c.in-Some.next c.in-Some.left found.0 some, tt),
+      found.2,
+      begun_taken c.in-Some.next c.in-Some.left
+          (take c.in-Some.len c.args.bytes.now) found.3,
+    )

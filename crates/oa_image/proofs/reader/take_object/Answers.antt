@@ -32,4 +32,5 @@ returns-clause-takes c =
     let some : 0 < t.left = omega (arith, c.if-table-eq0.false) in
     let found = rw (c.next.ensures, c.in-Some.is) at c.in_ok-head.ensures in
     comes t c.keep.new.table bytes (object_head.image c.in-Some.head) c.in-Some.len found.2 found.3 (object_head_bytes c.in-Some.head)
-    (c.in_ok-keep.ensures.taken ∙ object_head_taken t c.in-Some.head.0 c.in-Some.head.1.0 c.in_ok-cells.cells c.in-Some.head.1.1 c.requires.none some c.in_ok-cells.ensures.items (take c.in-Some.len bytes) found.3)
+    (c.in_ok-keep.ensures.taken ∙ object_head_taken t c.in-Some.head.0 c.in-Some.head.1.0 c.in_ok-cells.cells c.in-Some.head.1.1 c.requires.none some
+    c.in_ok-cells.ensures.items (take c.in-Some.len bytes) found.3)

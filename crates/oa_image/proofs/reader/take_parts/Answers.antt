@@ -10,7 +10,8 @@ parts-preserved c =
     record {
       so_far = record {
         within = omega (arith, old.within, more.within, length-drop c.parts.taken c.args.bytes.now);
-        taken = further (table_taken c.args.table.now) (table_taken c.parts.table) (table_taken c.take_part.new.table) c.args.bytes.now c.parts.taken c.in_ok-len.len old.taken more.taken;
+        taken = further (table_taken c.args.table.now) (table_taken c.parts.table) (table_taken c.take_part.new.table) c.args.bytes.now c.parts.taken
+            c.in_ok-len.len old.taken more.taken;
       };
       between = c.in_ok-len.ensures.between;
     }

@@ -2,7 +2,7 @@ use Rattle.std.proofs.Common.{◌≡◌, length}
 use Rattle.std.specs.List.{AllByRecursion}
 use Rattle.std.specs.Vec.Iter.{into_iter_items, into_iter_len}
 use Rattle.oa_table.specs.Events.{BringsNoLocks}
-use Rattle.oa_journal.specs.Replays.{applied_all}
+use Rattle.oa_journal.specs.promise.Bank.{applied_all}
 use Rattle.oa_journal.proofs.groups.apply_all.Given as goal
 
 -- what is made from here on is what is made from the start on

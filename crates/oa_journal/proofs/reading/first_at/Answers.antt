@@ -2,7 +2,7 @@ use Rattle.std.proofs.Common.{inl, inr, ◌≡◌, ◌∙◌, ◌+◌, List, ℕ
 use Rattle.std.proofs.lemmas.Result.{err_from_is_err_and}
 use Rattle.oa_journal.specs.declared.bank.BankFault.{BankFault}
 use Rattle.oa_journal.specs.declared.bank.BankFault.TheVariants as banks
-use Rattle.oa_journal.specs.Bank.{from_place}
+use Rattle.oa_journal.specs.promise.Bank.{from_place}
 use Rattle.oa_journal.specs.Snapshots.{HasNoImage}
 use Rattle.oa_journal.proofs.Banks.{image_long, table_numbered}
 use Rattle.oa_journal.proofs.Lockless.{image_unlocked}

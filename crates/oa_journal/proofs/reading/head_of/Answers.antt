@@ -1,6 +1,6 @@
 use Rattle.std.proofs.Common.{◌≡◌}
 use Rattle.std.proofs.lemmas.Result.{err_from_is_err_and}
-use Rattle.oa_journal.specs.Bank.{from_place}
+use Rattle.oa_journal.specs.promise.Bank.{from_place}
 use Rattle.oa_journal.proofs.Unique.{one_head}
 use Rattle.oa_journal.proofs.reading.head_of.Goals as goal
 
@@ -15,7 +15,8 @@ returns-then-not-is_same-clause-damaged g c at e =
       is,
       λ h l s has.
           let byte = from_place c.args.place (g.D.Disk.contents c.args.disk.now) in
-          let heads = one_head byte c.in_ok-head.head.shape c.in_ok-head.head.library c.in_ok-head.head.snapshot c.args.shape l s (c.in_ok-head.ensures.found h) has in
+          let heads = one_head byte c.in_ok-head.head.shape c.in_ok-head.head.library c.in_ok-head.head.snapshot c.args.shape l s
+          (c.in_ok-head.ensures.found h) has in
           let same = c.is_same.ensures.1 heads.shape_same in
           absurd (cc (same, c.if-not-is_same.true)),
     )

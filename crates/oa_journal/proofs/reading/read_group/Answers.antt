@@ -1,5 +1,5 @@
 use Rattle.std.proofs.Common.{◌≡◌, ◌∙◌, ◌+◌, ◌^◌, ◌<◌, ℕ, List, length, ap, sym, subst, arith}
-use Rattle.oa_journal.specs.Bank.{from_place, IsGroupAt}
+use Rattle.oa_journal.specs.promise.Bank.{from_place, IsGroupAt}
 use Rattle.oa_journal.proofs.Banks.{group_numbered}
 use Rattle.oa_journal.proofs.Lockless.{group_unlocked}
 use Rattle.oa_journal.proofs.Applied.{no_group}
@@ -19,6 +19,8 @@ returns-in-Err-Damaged-clause-damaged g c place e =
           let small : c.args.size < 2 ^ 32 = omega (arith, c.ranges.size.fits) in
           let byte = from_place c.args.body (g.D.Disk.contents c.args.disk.now) in
           let there = subst (λ (x : List ℕ). IsGroupAt byte c.args.at x) (sym c.deref.ensures.value) (c.in_ok-group.ensures.found.found h opened) in
-          let fits : c.args.at + (5 + length c.deref.result.now) < c.args.size = omega (arith, c.in_ok-group.ensures.found.inside, ap length c.deref.ensures.value) in
-          no_group (Unit {0}) c.args.size byte c.args.at c.deref.result.now c.args.table.now c.replay.new.table c.in-Err-Damaged.field-0 c.in-Err-Damaged.field-0-0 small c.in-Err-Damaged.field-0-is c.in-Err-Damaged.ensures opened there fits,
+          let fits : c.args.at + (5 + length c.deref.result.now) < c.args.size =
+          omega (arith, c.in_ok-group.ensures.found.inside, ap length c.deref.ensures.value) in
+          no_group (Unit {0}) c.args.size byte c.args.at c.deref.result.now c.args.table.now c.replay.new.table c.in-Err-Damaged.field-0
+          c.in-Err-Damaged.field-0-0 small c.in-Err-Damaged.field-0-is c.in-Err-Damaged.ensures opened there fits,
     )

@@ -13,7 +13,8 @@ stretches-preserved g c =
     let passed = c.stretches.reader ++ c.stretches.window.items in
     let passes = c.in_ok-left.ensures.passes in
     let more = passes.reads.more in
-    let long : length (c.read_stretch.new.reader ++ c.read_stretch.new.window.items) ≡ length passed + length more = ap length passes.reads.behind ∙ length-append passed more in
+    let long : length (c.read_stretch.new.reader ++ c.read_stretch.new.window.items) ≡ length passed + length more = ap length passes.reads.behind
+    ∙ length-append passed more in
     record {
       long = omega (arith, long, passes.reads.long, passes.nearer, so_far.long);
       there = λ h.
@@ -23,5 +24,6 @@ stretches-preserved g c =
           let next = subst (λ (x : List ℕ). HasBytesAt x (c.args.at + length passed) more) (so_far.read.after.reads before).contents_stay here in
           subst (λ (x : List ℕ). HasBytesAt disk c.args.at x) (sym passes.reads.behind) (holds_both disk c.args.at passed more (so_far.there before) next);
       whole = passes.whole;
-      read = one_read d (c.args.count - c.stretches.left) c.stretches.left c.in_ok-left.left (c.args.count - c.in_ok-left.left) so_far.read (omega (arith, c.stretches-test.true)) c.in_ok-left.ensures.after passes.nearer passes.far (omega (arith, so_far.long, passes.nearer));
+      read = one_read d (c.args.count - c.stretches.left) c.stretches.left c.in_ok-left.left (c.args.count - c.in_ok-left.left) so_far.read
+          (omega (arith, c.stretches-test.true)) c.in_ok-left.ensures.after passes.nearer passes.far (omega (arith, so_far.long, passes.nearer));
     }

@@ -1,7 +1,7 @@
 use Rattle.std.proofs.Common.{◌≡◌, ◌+◌, ◌-◌, ◌++◌, IsTrue, [], length}
 use Rattle.oa_disk.specs.Disk.{HasBytesAt}
-use Rattle.oa_image.specs.Tables.{table, table_image}
-use Rattle.oa_table.specs.Tables.{TableValue}
+use Rattle.oa_image.specs.promise.Tables.{table, table_image}
+use Rattle.oa_table.specs.promise.Tables.{TableValue}
 use Rattle.oa_journal.proofs.Stretches.{HasRead}
 use Rattle.oa_journal.proofs.snapshot.read_snapshot.Given as goal
 

@@ -11,7 +11,8 @@ returns-then-branch-branches g c = λ yes.
       rises = omega arith;
       one = λ some. omega arith;
       inside = omega (arith, c.requires.branch);
-      below = rows_below g.K.Ord.cmp g.met.K.Ord.total c.args.key.now branches c.requires.in_order.ordered branch c.requires.branch c.index-branches-branch.result c.index-branches-branch.result c.index-branches-branch.is c.requires.in_order.filled c.if-begins_after.ensures;
+      below = rows_below g.K.Ord.cmp g.met.K.Ord.total c.args.key.now branches c.requires.in_order.ordered branch c.requires.branch
+          c.index-branches-branch.result c.index-branches-branch.result c.index-branches-branch.is c.requires.in_order.filled c.if-begins_after.ensures;
       above = rw (drop_all (branch + 1) branches (omega (arith, c.if-branch-branches.true))) tt;
     }) (omega arith)
 
@@ -24,6 +25,8 @@ returns g c = λ yes.
       rises = omega arith;
       one = λ some. omega arith;
       inside = omega (arith, lt);
-      below = rows_below g.K.Ord.cmp g.met.K.Ord.total c.args.key.now branches c.requires.in_order.ordered branch c.requires.branch c.index-branches-branch.result c.index-branches-branch.result c.index-branches-branch.is c.requires.in_order.filled c.if-begins_after.ensures;
-      above = rows_above g.K.Ord.cmp g.met.K.Ord.total c.args.key.now branches c.requires.in_order.ordered (branch + 1) lt c.index-branches-branch-2.result c.index-branches-branch-2.result c.index-branches-branch-2.is (sym yes ∙ c.begins_after-2.ensures);
+      below = rows_below g.K.Ord.cmp g.met.K.Ord.total c.args.key.now branches c.requires.in_order.ordered branch c.requires.branch
+          c.index-branches-branch.result c.index-branches-branch.result c.index-branches-branch.is c.requires.in_order.filled c.if-begins_after.ensures;
+      above = rows_above g.K.Ord.cmp g.met.K.Ord.total c.args.key.now branches c.requires.in_order.ordered
+          (branch + 1) lt c.index-branches-branch-2.result c.index-branches-branch-2.result c.index-branches-branch-2.is (sym yes ∙ c.begins_after-2.ensures);
     }) (omega arith)

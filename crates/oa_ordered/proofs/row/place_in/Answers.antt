@@ -27,6 +27,7 @@ halves-preserved g c =
     record {
       middle = omega (arith, test);
       inside = i.inside;
-      below = below_through g.K.Ord.cmp g.met.K.Ord.total c.args.key.now c.args.entries.now c.requires _ lt _ c.index-entries-middle.result refl c.in-Greater.ensures;
+      below = below_through g.K.Ord.cmp g.met.K.Ord.total c.args.key.now c.args.entries.now c.requires _ lt _ c.index-entries-middle.result refl
+          c.in-Greater.ensures;
       above = i.above;
     }

@@ -11,6 +11,7 @@ returns-in-Greater-clause-absent g c =
     let all : length es - 1 + 1 ≡ length es = omega (arith, c.if-behind-gt0.true) in
     record {
       place = omega arith;
-      below = subst (λ n. AllBelow g.K.Ord.cmp c.args.key.now (take n es)) all (below_through g.K.Ord.cmp g.met.K.Ord.total c.args.key.now es c.requires _ lt _ c.index-entries-behind.result refl c.in-Greater.ensures);
+      below = subst (λ n. AllBelow g.K.Ord.cmp c.args.key.now (take n es)) all
+          (below_through g.K.Ord.cmp g.met.K.Ord.total c.args.key.now es c.requires _ lt _ c.index-entries-behind.result refl c.in-Greater.ensures);
       above = rw (drop_all (length es) es (omega arith)) tt;
     }

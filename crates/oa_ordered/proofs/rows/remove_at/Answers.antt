@@ -7,13 +7,15 @@ pub returns-then-len-eq0-clause-entry : goal.returns-then-len-eq0-clause-entry
 returns-then-len-eq0-clause-entry g c =
     let row = c.index_mut.result.now in
     let same = row_is c.args.rows.now.items c.args.place.row row row c.requires.row c.index_mut.ensures.value in
-    entry_split c.args.rows.now.items c.args.place.row c.args.place.at c.remove-entry.result c.remove-entry.result c.requires.row c.requires.place (rw same at c.remove-entry.ensures.entry)
+    entry_split c.args.rows.now.items c.args.place.row c.args.place.at c.remove-entry.result c.remove-entry.result c.requires.row c.requires.place
+    (rw same at c.remove-entry.ensures.entry)
 
 pub returns-else-len-eq0-clause-entry : goal.returns-else-len-eq0-clause-entry
 returns-else-len-eq0-clause-entry g c =
     let row = c.index_mut.result.now in
     let same = row_is c.args.rows.now.items c.args.place.row row row c.requires.row c.index_mut.ensures.value in
-    entry_split c.args.rows.now.items c.args.place.row c.args.place.at c.remove-entry.result c.remove-entry.result c.requires.row c.requires.place (rw same at c.remove-entry.ensures.entry)
+    entry_split c.args.rows.now.items c.args.place.row c.args.place.at c.remove-entry.result c.remove-entry.result c.requires.row c.requires.place
+    (rw same at c.remove-entry.ensures.entry)
 
 pub returns-else-len-eq0-clause-rest : goal.returns-else-len-eq0-clause-rest
 returns-else-len-eq0-clause-rest g c =
@@ -33,4 +35,5 @@ returns-then-len-eq0-clause-rest g c =
     ∙ rw (c.remove-entry.ensures.rest, same) (removed rows c.args.place.row c.args.place.at c.requires.row))
 
 pub returns-then-len-eq0-clause-filled : goal.returns-then-len-eq0-clause-filled
-returns-then-len-eq0-clause-filled g c = rw c.drop_row.ensures (filled_dropped c.args.rows.now.items c.args.place.row c.remove-entry.new.self c.requires.row c.requires.filled)
+returns-then-len-eq0-clause-filled g c =
+    rw c.drop_row.ensures (filled_dropped c.args.rows.now.items c.args.place.row c.remove-entry.new.self c.requires.row c.requires.filled)

@@ -11,6 +11,7 @@ returns-then-not-begins_after g c =
       rises = omega arith;
       one = λ some. lt;
       inside = omega arith;
-      below = rows_below g.K.Ord.cmp g.met.K.Ord.total c.args.key.now rows c.requires.ordered (length rows - 1) lt c.index-rows-behind.result c.index-rows-behind.result c.index-rows-behind.is c.requires.filled c.if-not-begins_after.ensures;
+      below = rows_below g.K.Ord.cmp g.met.K.Ord.total c.args.key.now rows c.requires.ordered
+          (length rows - 1) lt c.index-rows-behind.result c.index-rows-behind.result c.index-rows-behind.is c.requires.filled c.if-not-begins_after.ensures;
       above = rw (drop_all (length rows) rows (omega arith)) tt;
     }) (omega arith)

@@ -1,6 +1,6 @@
 use Rattle.std.proofs.Common.{append_assoc}
-use Rattle.oa_model.specs.Guids.{wire_order}
-use Rattle.oa_record.specs.Replies.{number_field}
+use Rattle.oa_model.specs.promise.Guids.{wire_order}
+use Rattle.oa_record.specs.promise.Replies.{number_field}
 use Rattle.oa_record.proofs.fields.add_object.Goals as goal
 
 pub returns-clause-value : goal.returns-clause-value

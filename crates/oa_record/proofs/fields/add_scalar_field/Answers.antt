@@ -1,7 +1,7 @@
 use Rattle.std.proofs.Common.{length, refl}
 use Rattle.oa_variant.specs.declared.variant.Variant.TheVariants.{One}
-use Rattle.oa_wire_variant.specs.Canon.{canon}
-use Rattle.oa_record.specs.Replies.{number_field}
+use Rattle.oa_wire_variant.specs.promise.Canon.{canon}
+use Rattle.oa_record.specs.promise.Replies.{number_field}
 use Rattle.oa_record.proofs.Lengths.{field_is}
 use Rattle.oa_record.proofs.fields.add_scalar_field.Goals as goal
 

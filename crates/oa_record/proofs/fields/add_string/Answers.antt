@@ -1,6 +1,6 @@
 use Rattle.std.proofs.Common.{length}
 use Rattle.std.specs.List.{flat_map}
-use Rattle.oa_record.specs.Replies.{number_field, half_word}
+use Rattle.oa_record.specs.promise.Replies.{number_field, half_word}
 use Rattle.oa_record.proofs.Lengths.{field_is, units_length}
 use Rattle.oa_record.proofs.fields.add_string.Goals as goal
 

@@ -1,6 +1,6 @@
 use Rattle.std.proofs.Common.{◌≡◌, [], length}
 use Rattle.std.specs.List.{flat_map}
-use Rattle.oa_record.specs.Replies.{ids_field, number_field, signed_word}
+use Rattle.oa_record.specs.promise.Replies.{ids_field, number_field, signed_word}
 use Rattle.oa_record.proofs.Lengths.{field_is, signed_length, small_field}
 use Rattle.oa_record.proofs.fields.ids_field.Goals.{In_ok-pad}
 use Rattle.oa_record.proofs.fields.ids_field.Goals as goal

@@ -1,6 +1,6 @@
 use Rattle.std.proofs.Common.{◌≡◌, ◌++◌, take}
 use Rattle.std.specs.List.{flat_map}
-use Rattle.oa_record.specs.Replies.{signed_word}
+use Rattle.oa_record.specs.promise.Replies.{signed_word}
 use Rattle.oa_record.proofs.fields.put_ids.Given as goal
 
 abbrev pub invariant-ids : goal.invariant-ids

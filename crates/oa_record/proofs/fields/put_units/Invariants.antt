@@ -1,6 +1,6 @@
 use Rattle.std.proofs.Common.{◌≡◌, ◌++◌, take}
 use Rattle.std.specs.List.{flat_map}
-use Rattle.oa_record.specs.Replies.{half_word}
+use Rattle.oa_record.specs.promise.Replies.{half_word}
 use Rattle.oa_record.proofs.fields.put_units.Given as goal
 
 abbrev pub invariant-units : goal.invariant-units

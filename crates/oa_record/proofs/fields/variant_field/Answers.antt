@@ -1,5 +1,5 @@
 use Rattle.std.proofs.Common.{◌≤◌, length, rules}
-use Rattle.oa_wire_variant.specs.Canon.{canon}
+use Rattle.oa_wire_variant.specs.promise.Canon.{canon}
 use Rattle.oa_record.specs.Replies.{max_value_bytes}
 use Rattle.oa_record.proofs.Lengths.{value_small}
 use Rattle.oa_record.proofs.fields.variant_field.Goals as goal

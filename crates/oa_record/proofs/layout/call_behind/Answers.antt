@@ -10,5 +10,6 @@ returns-then-named_count-eq0 c =
 
 pub returns-then-named_count-eq1 : goal.returns-then-named_count-eq1
 returns-then-named_count-eq1 c =
-    lists_are c.args.body.now c.head_in-head.result 1 1 c.args.r.now c.new_value.new.r (parts_bringing c.head_in-head.result (Some c.in_ok-new_value.field-0.now)) c.head_in-head.ensures
+    lists_are c.args.body.now c.head_in-head.result 1 1 c.args.r.now c.new_value.new.r
+    (parts_bringing c.head_in-head.result (Some c.in_ok-new_value.field-0.now)) c.head_in-head.ensures
     (sym c.if-count-eq1.true ∙ c.u32_at-count.ensures) (sym c.if-named_count-eq1.true ∙ c.u32_at-named_count.ensures) refl c.in_ok-new_value.ensures

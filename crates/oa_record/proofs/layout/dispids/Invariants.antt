@@ -1,5 +1,5 @@
 use Rattle.std.proofs.Common.{◌≡◌, ◌-◌, length}
-use Rattle.oa_ndr.specs.Reading.{many}
+use Rattle.oa_ndr.specs.promise.Reading.{many}
 use Rattle.oa_ndr.proofs.Loop.{with_front}
 use Rattle.oa_record.specs.Reading.{dispid_at}
 use Rattle.oa_record.proofs.layout.dispids.Given as goal

@@ -1,6 +1,6 @@
 use Rattle.std.proofs.Common.{◌≤◌, length, rules}
 use Rattle.std.proofs.lemmas.Result.{err_from_is_err_and}
-use Rattle.oa_model.specs.Limits.{max_request_bytes}
+use Rattle.oa_model.specs.promise.Limits.{max_request_bytes}
 use Rattle.oa_record.specs.Shown.{shown}
 use Rattle.oa_record.proofs.Requests.{answered, no_parts}
 use Rattle.oa_record.proofs.reading.read_request.Goals as goal

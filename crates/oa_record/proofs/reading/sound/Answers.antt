@@ -1,5 +1,5 @@
 use Rattle.std.proofs.lemmas.Result.{err_from_is_err_and}
-use Rattle.oa_record.specs.Asks.{IsUnbroken}
+use Rattle.oa_record.specs.promise.Asks.{IsUnbroken}
 use Rattle.oa_record.proofs.Judged.{all_more, sound_ends}
 use Rattle.oa_record.proofs.reading.sound.Goals as goal
 

@@ -10,14 +10,22 @@ returns-in_err-sound-in-Err-BadVarType-clause-judged c =
 
 pub returns-in-Err-BadVarType-clause-judged : goal.returns-in-Err-BadVarType-clause-judged
 returns-in-Err-BadVarType-clause-judged c =
-    let at : c.len-at.result ≡ c.fields.field-index = search rules in
-    (c.len-at.result, refl, bad_type_read c.args.fields.now c.fields.field-index c.len-at.result _ c.in-Err-BadVarType.field-0 c.fields.values.items c.fields-test.true at c.fields.invariant.spelled c.in-Err-BadVarType.field-0-is c.in-Err-BadVarType.ensures.exact c.in_ok-sound-in-Err-BadVarType.ensures)
+    let at : c.len-at.result ≡ c.fields.field-index = search rules in (
+      c.len-at.result,
+      refl,
+      bad_type_read c.args.fields.now c.fields.field-index c.len-at.result _ c.in-Err-BadVarType.field-0 c.fields.values.items
+          c.fields-test.true at c.fields.invariant.spelled c.in-Err-BadVarType.field-0-is c.in-Err-BadVarType.ensures.exact
+          c.in_ok-sound-in-Err-BadVarType.ensures,
+    )
 
 pub returns-in-Err-BadStub-clause-judged : goal.returns-in-Err-BadStub-clause-judged
-returns-in-Err-BadStub-clause-judged c = broken_read c.args.fields.now c.fields.field-index _ c.in-Err-BadStub.field-0 c.fields-test.true c.in-Err-BadStub.field-0-is c.in-Err-BadStub.ensures.exact
+returns-in-Err-BadStub-clause-judged c =
+    broken_read c.args.fields.now c.fields.field-index _ c.in-Err-BadStub.field-0 c.fields-test.true c.in-Err-BadStub.field-0-is c.in-Err-BadStub.ensures.exact
 
 pub fields-preserved : goal.fields-preserved
 fields-preserved c = record {
   count = search rules;
-  spelled = rw c.in_ok-push-in-Ok.ensures.items (spell_more c.args.fields.now c.fields.field-index _ c.fields.values.items c.in-Ok.value c.fields-test.true c.fields.invariant.spelled c.in-Ok.ensures.exact);
+  spelled =
+      rw c.in_ok-push-in-Ok.ensures.items (spell_more c.args.fields.now c.fields.field-index _ c.fields.values.items c.in-Ok.value c.fields-test.true
+      c.fields.invariant.spelled c.in-Ok.ensures.exact);
 }

@@ -1,5 +1,5 @@
 use Rattle.std.proofs.Common.{◌≡◌, length, take, map}
-use Rattle.oa_record.specs.Asks.{AllSpell}
+use Rattle.oa_record.specs.promise.Asks.{AllSpell}
 use Rattle.oa_record.proofs.reading.values.Given as goal
 
 abbrev pub invariant-fields : goal.invariant-fields

@@ -7,5 +7,7 @@ pub returns-clause-ended : goal.returns-clause-ended
 returns-clause-ended g c =
     let desk = c.args.desk.now in
     rw c.new.ensures
-    (lifted_ended {g = g.D.Disk} desk.askers.items desk.owners c.finish.new.open_group.replies.items desk.open_group.replies.items [] desk.open_group.batch [] c.args.store.now c.finish.new.store c.args.host.now c.args.host.now c.requires.ready.each
-    (with_no_events {g = g.D.Disk} c.finish.new.open_group.replies.items desk.open_group.replies.items [] desk.open_group.batch c.finish.new.open_group.batch c.args.store.now c.finish.new.store c.args.host.now c.args.host.now c.finish.ensures.ended))
+    (lifted_ended {g = g.D.Disk} desk.askers.items desk.owners c.flush_held.new.open_group.replies.items desk.open_group.replies.items [] desk.open_group.batch
+    [] c.args.store.now c.flush_held.new.store c.args.host.now c.args.host.now c.requires.ready.each
+    (with_no_events {g = g.D.Disk} c.flush_held.new.open_group.replies.items desk.open_group.replies.items [] desk.open_group.batch
+    c.flush_held.new.open_group.batch c.args.store.now c.flush_held.new.store c.args.host.now c.args.host.now c.flush_held.ensures.ended))

@@ -1,9 +1,9 @@
 use Rattle.std.proofs.Common.{rules, Vec, Global, ◌≡◌, ◌+◌, ◌++◌, ◌∷◌, ◌≤◌, [], List, ℕ, arith, map, take, length, refl, sym, ◌∙◌, ap}
 use Rattle.std.proofs.lemmas.List.{map_push, take_all, take_more}
-use Rattle.oa_groups.proofs.Ends.{underway_ended}
-use Rattle.oa_groups.proofs.Takes.{underway_start, underway_taken}
+use Rattle.oa_group_commit.proofs.Ends.{underway_ended}
+use Rattle.oa_group_commit.proofs.Takes.{underway_start, underway_taken}
 use Rattle.oa_server.specs.OpenGroups.{grouping}
-use Rattle.oa_server.specs.Requests.{requests}
+use Rattle.oa_server.specs.promise.ServerMachine.{server_machine}
 use Rattle.oa_server.proofs.AnsweredAfterFault.{late_ended, late_more, late_none}
 use Rattle.oa_server.proofs.Settled.{ready_none}
 use Rattle.oa_server.proofs.grouping.run_over.Goals as goal
@@ -22,7 +22,8 @@ bodies-init g c =
       places = search rules;
       going = λ going.
           rw (made.replies, made.batch, c.in_ok-out.ensures.items)
-          (underway_start requests {g = g.D.Disk} (λ d f honest since. g.met.D.Disk.only_now d f honest since) (grouping c.args.store.now c.args.host.now [] []) c.args.group going refl refl);
+          (underway_start server_machine {g = g.D.Disk} (λ d f honest since. g.met.D.Disk.only_now d f honest since)
+          (grouping c.args.store.now c.args.host.now [] []) c.args.group going refl refl);
       late = λ stopped. rw c.in_ok-out.ensures.items (late_none c.args.store.now c.args.host.now stopped);
     }
 
@@ -35,7 +36,8 @@ bodies-preserved g c =
     let new = grouping c.take_on.new.store c.take_on.new.host c.take_on.new.open_group.replies.items c.take_on.new.open_group.batch in
     let taken = c.take_on.ensures.taken in
     let so_far = c.bodies.invariant in
-    let more : map bytes (take (i + 1) bodies) ≡ map bytes (take i bodies) ++ bytes body ∷ [] = rw (take_more bodies i body c.bodies-test.true, sym c.body-item.is) (map_push bytes (take i bodies) body) in
+    let more : map bytes (take (i + 1) bodies) ≡ map bytes (take i bodies) ++ bytes body ∷ [] =
+    rw (take_more bodies i body c.bodies-test.true, sym c.body-item.is) (map_push bytes (take i bodies) body) in
     record {
       ready = c.take_on.ensures.ready;
       banks = c.take_on.ensures.banks;
@@ -44,12 +46,15 @@ bodies-preserved g c =
       places = search rules;
       going = λ going.
           rw (more, taken.out)
-          (underway_taken requests {g = g.D.Disk} (λ d f honest since. g.met.D.Disk.only_now d f honest since) (grouping c.args.store.now c.args.host.now [] []) c.args.group old new (map bytes (take i bodies)) c.bodies.out.items (bytes body) taken.told
+          (underway_taken server_machine {g = g.D.Disk} (λ d f honest since. g.met.D.Disk.only_now d f honest since)
+          (grouping c.args.store.now c.args.host.now [] []) c.args.group old new (map bytes (take i bodies)) c.bodies.out.items (bytes body) taken.told
           (so_far.going going) (rw (so_far.size, c.deref.ensures.value) at taken.is));
       late = λ stopped.
           rw (more, taken.out)
-          (late_more c.args.store.now c.bodies.store c.take_on.new.store c.args.host.now c.bodies.host c.take_on.new.host (map bytes (take i bodies)) c.bodies.out.items c.args.group (bytes body) taken.told
-          c.bodies.open_group.replies.items c.take_on.new.open_group.replies.items c.bodies.open_group.batch c.take_on.new.open_group.batch (so_far.late stopped) (rw (so_far.size, c.deref.ensures.value) at taken.is));
+          (late_more c.args.store.now c.bodies.store c.take_on.new.store c.args.host.now c.bodies.host c.take_on.new.host
+          (map bytes (take i bodies)) c.bodies.out.items c.args.group (bytes body) taken.told
+          c.bodies.open_group.replies.items c.take_on.new.open_group.replies.items c.bodies.open_group.batch c.take_on.new.open_group.batch
+          (so_far.late stopped) (rw (so_far.size, c.deref.ensures.value) at taken.is));
     }
 
 pub returns-clause-served : goal.returns-clause-served
@@ -62,7 +67,8 @@ returns-clause-served g c going =
     let end : length bodies ≤ i = omega (arith, c.bodies-test.false) in
     let whole : map bytes (take i bodies) ≡ map bytes bodies = ap (λ (l : List (Vec ℕ Global)). map bytes l) (take_all i bodies end) in
     rw (sym whole, ended.out)
-    (underway_ended requests {g = g.D.Disk} (λ d f honest since. g.met.D.Disk.only_now d f honest since) (grouping c.args.store.now c.args.host.now [] []) c.args.group old new (map bytes (take i bodies)) c.bodies.out.items ended.told
+    (underway_ended server_machine {g = g.D.Disk} (λ d f honest since. g.met.D.Disk.only_now d f honest since)
+    (grouping c.args.store.now c.args.host.now [] []) c.args.group old new (map bytes (take i bodies)) c.bodies.out.items ended.told
     (c.bodies.invariant.going going) ended.is)
 
 pub returns-clause-late : goal.returns-clause-late
@@ -73,5 +79,7 @@ returns-clause-late g c stopped =
     let end : length bodies ≤ i = omega (arith, c.bodies-test.false) in
     let whole : map bytes (take i bodies) ≡ map bytes bodies = ap (λ (l : List (Vec ℕ Global)). map bytes l) (take_all i bodies end) in
     rw (sym whole, ended.out)
-    (late_ended c.args.store.now c.bodies.store c.finish_on.new.store c.args.host.now c.bodies.host c.bodies.host (map bytes (take i bodies)) c.bodies.out.items ended.told
-    c.bodies.open_group.replies.items c.finish_on.new.open_group.replies.items c.bodies.open_group.batch c.finish_on.new.open_group.batch (c.bodies.invariant.late stopped) ended.is)
+    (late_ended c.args.store.now c.bodies.store c.finish_on.new.store c.args.host.now c.bodies.host c.bodies.host
+    (map bytes (take i bodies)) c.bodies.out.items ended.told
+    c.bodies.open_group.replies.items c.finish_on.new.open_group.replies.items c.bodies.open_group.batch c.finish_on.new.open_group.batch
+    (c.bodies.invariant.late stopped) ended.is)

@@ -1,12 +1,13 @@
 use Rattle.std.proofs.Common.{ap, arith, rules, sym, ◌∙◌}
-use Rattle.oa_keeper.proofs.Committed.{still_carried}
-use Rattle.oa_turn.specs.Events.{held_of}
+use Rattle.oa_store.proofs.Committed.{still_carried}
+use Rattle.oa_turn.specs.promise.Events.{held_of}
 use Rattle.oa_turn.proofs.SameLibrary.{ordinary_bank}
 use Rattle.oa_server.proofs.TurnsOverStore.{answered, carried}
 use Rattle.oa_server.proofs.holding.turn_held.Goals as goal
 
 pub returns-in-Answered-clause-turn : goal.returns-in-Answered-clause-turn
-returns-in-Answered-clause-turn g c = answered c.args.body.now c.in-Answered.reply c.args.batch.now c.args.host.now c.plan.new.self c.requires.plain c.in-Answered.ensures.plans.0 c.in-Answered.ensures.plans.1 c.in-Answered.ensures.quiet
+returns-in-Answered-clause-turn g c = answered c.args.body.now c.in-Answered.reply c.args.batch.now c.args.host.now c.plan.new.self c.requires.plain
+    c.in-Answered.ensures.plans.0 c.in-Answered.ensures.plans.1 c.in-Answered.ensures.quiet
 
 pub returns-in-Answered-clause-holds : goal.returns-in-Answered-clause-holds
 returns-in-Answered-clause-holds g c = record {
@@ -30,7 +31,8 @@ returns-in-Change-clause-holds g c =
     }
 
 pub returns-in-Answered-clause-banks : goal.returns-in-Answered-clause-banks
-returns-in-Answered-clause-banks g c = c.requires.banks ∙ sym (ordinary_bank c.args.host.now c.plan.new.self c.args.body.now c.in-Answered.reply c.in-Answered.ensures.plans.0)
+returns-in-Answered-clause-banks g c = c.requires.banks
+    ∙ sym (ordinary_bank c.args.host.now c.plan.new.self c.args.body.now c.in-Answered.reply c.in-Answered.ensures.plans.0)
 
 pub returns-in-Answered-clause-once : goal.returns-in-Answered-clause-once
 returns-in-Answered-clause-once g c honest = omega arith

@@ -1,23 +1,24 @@
 use Rattle.std.proofs.Common.{refl}
-use Rattle.oa_groups.proofs.Calling.{one_fault, session_called, session_goes_on, session_late, session_opened, session_stands}
-use Rattle.oa_server.specs.Requests.{requests}
+use Rattle.oa_group_commit.proofs.Calling.{one_fault, session_called, session_goes_on, session_late, session_opened, session_stands}
+use Rattle.oa_server.specs.promise.ServerMachine.{server_machine}
 use Rattle.oa_server.proofs.laws.sessions_go_on.Goals as goal
 
 pub returns-clause-opened : goal.returns-clause-opened
-returns-clause-opened g c start now first calls all = session_opened requests {g = g.D.Disk} start now first calls all
+returns-clause-opened g c start now first calls all = session_opened server_machine {g = g.D.Disk} start now first calls all
 
 pub returns-clause-called : goal.returns-clause-called
 returns-clause-called g c start mid new first last after calls call was is = (
-  session_called requests {g = g.D.Disk} start mid new first last after calls call was is,
+  session_called server_machine {g = g.D.Disk} start mid new first last after calls call was is,
   refl,
-  session_stands requests {g = g.D.Disk} start mid new first last after calls call was is,
+  session_stands server_machine {g = g.D.Disk} start mid new first last after calls call was is,
 )
 
 pub returns-clause-goes_on : goal.returns-clause-goes_on
-returns-clause-goes_on g c start mid new first last after calls call was is going = session_goes_on requests {g = g.D.Disk} start mid new first last after calls call was is going
+returns-clause-goes_on g c start mid new first last after calls call was is going =
+    session_goes_on server_machine {g = g.D.Disk} start mid new first last after calls call was is going
 
 pub returns-clause-late : goal.returns-clause-late
-returns-clause-late g c start now first last calls call was stopped told = session_late requests g.D.Disk start now first last calls call was stopped told
+returns-clause-late g c start now first last calls call was stopped told = session_late server_machine g.D.Disk start now first last calls call was stopped told
 
 pub returns-clause-one : goal.returns-clause-one
-returns-clause-one g c start now first last calls session = one_fault requests g.D.Disk start now first last calls session
+returns-clause-one g c start now first last calls session = one_fault server_machine g.D.Disk start now first last calls session

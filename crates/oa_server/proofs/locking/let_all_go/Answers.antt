@@ -1,7 +1,7 @@
 use Rattle.std.proofs.Common.{ap, ◌∙◌}
-use Rattle.oa_server.specs.SharedRequests.{close_keeps}
-use Rattle.oa_server.specs.Sharing.{shared}
-use Rattle.oa_decision.specs.States.{State}
+use Rattle.oa_server.specs.SharedMachine.{close_keeps}
+use Rattle.oa_server.specs.promise.SharedMachine.{shared}
+use Rattle.oa_decision.specs.promise.States.{State}
 use Rattle.oa_server.proofs.locking.let_all_go.Goals as goal
 
 pub returns-clause-bank : goal.returns-clause-bank

@@ -1,8 +1,8 @@
 use Rattle.std.proofs.Common.{◌≡◌, map}
-use Rattle.oa_owners.specs.Counts.{name_of}
+use Rattle.oa_turn.specs.Counts.{locked_name}
 use Rattle.oa_server.proofs.LocksBack.{taken_clients}
-use Rattle.oa_server.specs.Sharing.{taken_back}
+use Rattle.oa_server.specs.promise.SharedMachine.{taken_back}
 use Rattle.oa_server.proofs.locking.take_back_each.Given as goal
 
 abbrev pub invariant-clients : goal.invariant-clients
-invariant-clients l = taken_clients l._client-iterator l.host ≡ taken_back (map name_of l.fn.owners) l.fn.host
+invariant-clients l = taken_clients l._client-iterator l.host ≡ taken_back (map locked_name l.fn.owners) l.fn.host

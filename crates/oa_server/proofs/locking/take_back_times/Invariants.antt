@@ -1,6 +1,6 @@
 use Rattle.std.proofs.Common.{◌≡◌, ◌-◌, []}
-use Rattle.oa_owners.specs.Kept.{copies}
-use Rattle.oa_server.specs.Sharing.{taken_back}
+use Rattle.oa_turn.specs.Kept.{copies}
+use Rattle.oa_server.specs.promise.SharedMachine.{taken_back}
 use Rattle.oa_server.proofs.locking.take_back_times.Given as goal
 
 abbrev pub invariant-times : goal.invariant-times

@@ -1,7 +1,7 @@
 use Rattle.std.proofs.Common.{take}
-use Rattle.oa_server.specs.Desks.{all_frames, told_to}
-use Rattle.oa_share.specs.Outgoing.{spelled_frames}
-use Rattle.oa_stream.specs.Sink.{Writes}
+use Rattle.oa_server.specs.promise.SharedSessions.{all_frames, told_to}
+use Rattle.oa_mux.specs.promise.Outgoing.{spelled_frames}
+use Rattle.oa_stream.specs.promise.Sink.{Writes}
 use Rattle.oa_server.proofs.sharing.put_all.Given as goal
 
 abbrev pub invariant-replies : goal.invariant-replies

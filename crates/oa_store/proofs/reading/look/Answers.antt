@@ -3,8 +3,8 @@ use Rattle.std.proofs.lemmas.Result.{err_from_is_err_and}
 use Rattle.oa_journal.specs.Damages.{IsDamagedBank}
 use Rattle.oa_journal.specs.declared.bank.BankFault.{BankFault}
 use Rattle.oa_journal.specs.declared.bank.BankFault.TheVariants as banks
-use Rattle.oa_journal.specs.declared.shape.Shape.{Shape}
-use Rattle.oa_store.specs.Stores.{head_place}
+use Rattle.oa_journal.specs.declared.shape.BankFormat.{BankFormat}
+use Rattle.oa_store.specs.promise.Stores.{head_place}
 use Rattle.oa_store.proofs.reading.look.Goals as goal
 
 pub returns-in_err-library-clause-damaged : goal.returns-in_err-library-clause-damaged
@@ -15,6 +15,6 @@ returns-in_err-library-clause-damaged g c at e h =
     let stands = c.bank_of-bank.ensures in
     let disk = g.D.Disk.contents c.args.disk.now in
     let damaged = (c.in_err-library.ensures.refused.damaged at (ap (λ (x : BankFault). Err x) is)).1 h in
-    let sized = subst (λ (s : Shape). IsDamagedBank s bank.head bank.body disk at) stands.shape_is damaged in
+    let sized = subst (λ (s : BankFormat). IsDamagedBank s bank.head bank.body disk at) stands.shape_is damaged in
     let headed = subst (λ (k : ℕ). IsDamagedBank c.args.shape k bank.body disk at) stands.head_is sized in
     subst (λ (k : ℕ). IsDamagedBank c.args.shape (head_place c.args.chosen) k disk at) stands.body_is headed

@@ -1,13 +1,13 @@
 use Rattle.std.proofs.Common.{◌≡◌, ℕ, List, Err, ap, subst, arith}
 use Rattle.std.proofs.lemmas.Result.{err_from_is_err_and}
-use Rattle.oa_journal.specs.Bank.{HasHead}
+use Rattle.oa_journal.specs.promise.Bank.{HasHead}
 use Rattle.oa_journal.specs.declared.bank.BankFault.{BankFault}
-use Rattle.oa_journal.specs.declared.shape.Shape.{Shape}
-use Rattle.oa_journal.specs.declared.shape.Shape.TheVariants.{One}
+use Rattle.oa_journal.specs.declared.shape.BankFormat.{BankFormat}
+use Rattle.oa_journal.specs.declared.shape.BankFormat.TheVariants.{One}
 use Rattle.oa_journal.specs.Damages.{IsDamagedBank}
 use Rattle.oa_store.specs.declared.fault.FindFault.{FindFault}
 use Rattle.oa_store.specs.Faults.{HasOldShape, IsCausedUpgrade, upgrade_of_bank}
-use Rattle.oa_store.specs.Stores.{body_place, head_place}
+use Rattle.oa_store.specs.promise.Stores.{body_place, head_place}
 use Rattle.oa_store.proofs.Opened.{spoilt}
 use Rattle.oa_store.proofs.Upgraded.{any_size_early, any_size_late, caused_early, caused_late, read_tells, says_early, says_spoilt, tells_early}
 use Rattle.oa_store.proofs.upgrading.find_old.Goals as goal
@@ -40,11 +40,20 @@ returns-in_err-library-clause-refused g c =
           let chosen = c.in_ok-chosen.chosen in
           let head = c.in_ok-chosen.head in
           let one : head.shape ≡ One = cc in
-          says_spoilt bank (g.D.Disk.size_of c.args.disk.now) contents fault (record { chosen = chosen; head = found.0; library = head.library; snapshot = head.snapshot; has = subst (λ (s : Shape). HasHead s (head_place chosen) contents head.library head.snapshot) one found.1 })
+          says_spoilt bank (g.D.Disk.size_of c.args.disk.now) contents fault
+          (record {
+            chosen = chosen;
+            head = found.0;
+            library = head.library;
+            snapshot = head.snapshot;
+            has = subst (λ (s : BankFormat). HasHead s (head_place chosen) contents head.library head.snapshot) one found.1;
+          })
           (λ at is. spoilt HasOldShape contents chosen head.shape head.library head.snapshot at found.0 found.1 one
-          (subst (λ (d : List ℕ). IsDamagedBank head.shape (head_place chosen) (body_place head.shape chosen) d at) stay (c.in_err-library.ensures.damaged at (ap (λ (x : BankFault). Err x) is) h)));
+          (subst (λ (d : List ℕ). IsDamagedBank head.shape (head_place chosen) (body_place head.shape chosen) d at) stay
+          (c.in_err-library.ensures.damaged at (ap (λ (x : BankFault). Err x) is) h)));
       any_size = any_size_late fault;
-      cause = subst (λ (n : ℕ). IsCausedUpgrade n (g.D.Disk.failures_of c.look.new.disk) (upgrade_of_bank fault)) c.in_ok-chosen.ensures.after.unfailed (caused_late _ _ fault after.cause);
+      cause = subst (λ (n : ℕ). IsCausedUpgrade n (g.D.Disk.failures_of c.look.new.disk) (upgrade_of_bank fault)) c.in_ok-chosen.ensures.after.unfailed
+          (caused_late _ _ fault after.cause);
       tells = λ h. read_tells _ _ _ fault (λ why is. after.device why (ap (λ (x : BankFault). Err x) is))
           (λ image is. c.in_ok-chosen.ensures.found.synced (after.calls.honest h) image ((after.reads h).writes_nothing.images image is));
       calls = λ h. omega (arith, c.find_head.ensures.calls (after.calls.honest h), c.find_head.ensures.after.size, after.most h);

@@ -1,5 +1,5 @@
 use Rattle.std.proofs.Common.{◌≡◌, true, sym, ◌∙◌, arith}
-use Rattle.oa_variant.specs.Scalars.{fits_type}
+use Rattle.oa_variant.specs.promise.Scalars.{fits_type}
 use Rattle.oa_table.proofs.Sums.{element_due, outside_due}
 use Rattle.oa_table.proofs.difference.element_set.Goals as goal
 

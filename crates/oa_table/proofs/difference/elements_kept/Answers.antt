@@ -12,4 +12,5 @@ pub returns-clause-size : goal.returns-clause-size
 returns-clause-size c =
     let a = c.args.array.now in
     let more : length a.cells ≤ c.args.count = rw c.cells-cells.ensures.value at c.if-count-cells.false in
-    rw (c.element_len.ensures.value, c.zero.ensures, c.elem-elem.ensures, c.cells-cells.ensures.value) (omega (arith, resized_sum a.elem c.args.count a.cells more))
+    rw (c.element_len.ensures.value, c.zero.ensures, c.elem-elem.ensures, c.cells-cells.ensures.value)
+    (omega (arith, resized_sum a.elem c.args.count a.cells more))

@@ -1,5 +1,5 @@
 use Rattle.std.proofs.Common.{◌≡◌, ◌-◌, ◌≤◌, length, drop, false}
-use Rattle.oa_tokens.specs.Bytes.{end_from}
+use Rattle.oa_tokens.specs.promise.Bytes.{end_from}
 use Rattle.oa_tokens.proofs.Scans.{plus}
 use Rattle.oa_tokens.proofs.scan.end_of.Given as goal
 

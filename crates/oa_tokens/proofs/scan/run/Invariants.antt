@@ -1,5 +1,5 @@
 use Rattle.std.proofs.Common.{◌≡◌, ◌-◌, ◌+◌, ◌≤◌, length, drop}
-use Rattle.oa_tokens.specs.Bytes.{is_in, run}
+use Rattle.oa_tokens.specs.promise.Bytes.{is_in, run}
 use Rattle.oa_tokens.proofs.scan.run.Given as goal
 
 abbrev pub invariant-loop-n : goal.invariant-loop-n

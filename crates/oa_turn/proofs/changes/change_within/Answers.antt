@@ -9,7 +9,8 @@ returns-in-Err-clause-change c bank within =
     (refused.1, rw c.code.ensures (why_refused bank c.args.event c.args.table.now c.in-Err.fault within refused.2))
 
 pub returns-clause-change : goal.returns-clause-change
-returns-clause-change c bank within = within_allowed bank c.args.event c.args.table.now c.apply.new.self c.in_default.ensures.does (within c.apply.new.self c.in_default.ensures.does)
+returns-clause-change c bank within = within_allowed bank c.args.event c.args.table.now c.apply.new.self c.in_default.ensures.does
+    (within c.apply.new.self c.in_default.ensures.does)
 
 pub returns-clause-sound : goal.returns-clause-sound
 returns-clause-sound c bank within sound =

@@ -1,5 +1,5 @@
 use Rattle.std.proofs.Common.{◌≡◌, ◌≤◌, length, take}
-use Rattle.oa_typelib.specs.Descriptions.{interfaces_of}
+use Rattle.oa_typelib.specs.promise.Descriptions.{interfaces_of}
 use Rattle.oa_typelib.proofs.describe.count_interfaces.Given as goal
 
 abbrev pub invariant-loop-item : goal.invariant-loop-item

@@ -1,5 +1,5 @@
 use Rattle.std.proofs.Common.{◌≡◌, slice_get, drop}
-use Rattle.oa_typelib.specs.Descriptions.{classes_of}
+use Rattle.oa_typelib.specs.promise.Descriptions.{classes_of}
 use Rattle.oa_typelib.proofs.describe.nth_class.Given as goal
 
 abbrev pub invariant-loop-item : goal.invariant-loop-item

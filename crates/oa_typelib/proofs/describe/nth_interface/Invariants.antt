@@ -1,5 +1,5 @@
 use Rattle.std.proofs.Common.{◌≡◌, slice_get, drop}
-use Rattle.oa_typelib.specs.Descriptions.{interfaces_of}
+use Rattle.oa_typelib.specs.promise.Descriptions.{interfaces_of}
 use Rattle.oa_typelib.proofs.describe.nth_interface.Given as goal
 
 abbrev pub invariant-items : goal.invariant-items

@@ -1,6 +1,6 @@
 use Rattle.std.proofs.Common.{◌≡◌, map, take}
 use Rattle.std.specs.Ordering.{int_eq}
-use Rattle.oa_checks.specs.DeclarationValues.{DeclarationValue}
+use Rattle.oa_sema.specs.promise.DeclarationValues.{DeclarationValue}
 use Rattle.oa_typelib.specs.Groups.{keys_with_places}
 use Rattle.oa_typelib.proofs.groups.places_by_id.Given as goal
 

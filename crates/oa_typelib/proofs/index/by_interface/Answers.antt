@@ -1,9 +1,9 @@
 use Rattle.std.proofs.Common.{◌≡◌, ℕ, List, map, IfOk, Bor, ap, subst, ◌∙◌}
-use Rattle.oa_model.specs.Folding.{folded_name}
-use Rattle.oa_idl.specs.Values.{InterfaceValue}
-use Rattle.oa_typelib.specs.Descriptions.{interfaces_of}
+use Rattle.oa_model.specs.promise.Folding.{folded_name}
+use Rattle.oa_idl.specs.promise.Values.{InterfaceValue}
+use Rattle.oa_typelib.specs.promise.Descriptions.{interfaces_of}
 use Rattle.oa_typelib.specs.Groups.{keys_with_places}
-use Rattle.oa_checks.specs.Libraries.{same}
+use Rattle.oa_sema.specs.promise.Libraries.{same}
 use Rattle.oa_typelib.proofs.Looks.{names_folded}
 use Rattle.oa_typelib.proofs.index.by_interface.Goals as goal
 

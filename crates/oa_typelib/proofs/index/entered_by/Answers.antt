@@ -1,9 +1,9 @@
 use Rattle.std.proofs.Common.{◌≡◌, ℕ, Bool, List, map, IfOk, Bor, ap, subst, ◌∙◌}
-use Rattle.oa_model.specs.Folding.{folded_name}
-use Rattle.oa_idl.specs.Values.{CoclassValue}
+use Rattle.oa_model.specs.promise.Folding.{folded_name}
+use Rattle.oa_idl.specs.promise.Values.{CoclassValue}
 use Rattle.oa_idl.specs.declared.parts.Entry.{Entry}
 use Rattle.oa_typelib.specs.Groups.{keys_with_places}
-use Rattle.oa_checks.specs.Libraries.{same}
+use Rattle.oa_sema.specs.promise.Libraries.{same}
 use Rattle.oa_typelib.proofs.Looks.{all_flags, names_folded}
 use Rattle.oa_typelib.proofs.index.entered_by.Goals as goal
 

@@ -1,5 +1,5 @@
 use Rattle.std.proofs.Common.{◌≡◌, map, take}
-use Rattle.oa_checks.specs.Libraries.{folded_names}
+use Rattle.oa_sema.specs.Libraries.{folded_names}
 use Rattle.oa_typelib.specs.Indexes.{entered_in}
 use Rattle.oa_typelib.proofs.index.entered_rows.Given as goal
 

@@ -1,5 +1,5 @@
 use Rattle.std.proofs.Common.{◌≡◌, map, take}
-use Rattle.oa_typelib.specs.Descriptions.{interfaces_of}
+use Rattle.oa_typelib.specs.promise.Descriptions.{interfaces_of}
 use Rattle.oa_typelib.proofs.index.interface_names.Given as goal
 
 abbrev pub invariant-loop-item : goal.invariant-loop-item

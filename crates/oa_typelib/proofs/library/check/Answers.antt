@@ -1,10 +1,11 @@
 use Rattle.std.proofs.Common.{◌≡◌, Option, sym, subst}
-use Rattle.oa_idl.specs.Trees.{TreeValue}
-use Rattle.oa_checks.specs.Libraries.{marked}
-use Rattle.oa_checks.specs.Breaches.{RefusesBreach, first_breach, tree_breach, text_breach}
-use Rattle.oa_checks.specs.declared.fault.CheckError.{CheckError}
-use Rattle.oa_checks.proofs.Passes.{refused, for_memory}
-use Rattle.oa_checks.proofs.Passes.{breach_before, no_breach_before}
+use Rattle.oa_idl.specs.promise.Trees.{TreeValue}
+use Rattle.oa_sema.specs.promise.Libraries.{marked}
+use Rattle.oa_sema.specs.Breaches.{RefusesBreach}
+use Rattle.oa_sema.specs.promise.Breaches.{first_breach, tree_breach, text_breach}
+use Rattle.oa_sema.specs.declared.fault.CheckError.{CheckError}
+use Rattle.oa_sema.proofs.Passes.{refused, for_memory}
+use Rattle.oa_sema.proofs.Passes.{breach_before, no_breach_before}
 use Rattle.oa_typelib.proofs.Finds.{library_of_texts}
 use Rattle.oa_typelib.proofs.library.check.Goals as goal
 

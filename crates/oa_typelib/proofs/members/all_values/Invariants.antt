@@ -1,5 +1,5 @@
 use Rattle.std.proofs.Common.{◌≡◌, map, take}
-use Rattle.oa_checks.specs.Defaults.{defaults_of}
+use Rattle.oa_sema.specs.Defaults.{defaults_of}
 use Rattle.oa_typelib.proofs.members.all_values.Given as goal
 
 abbrev pub invariant-loop-declaration : goal.invariant-loop-declaration

@@ -1,8 +1,8 @@
 use Rattle.std.proofs.Common.{◌≡◌, ℕ, List, map, IfOk, Bor, ap, subst, ◌∙◌}
-use Rattle.oa_model.specs.Folding.{folded_name}
-use Rattle.oa_checks.specs.DeclarationValues.{DeclarationValue}
+use Rattle.oa_model.specs.promise.Folding.{folded_name}
+use Rattle.oa_sema.specs.promise.DeclarationValues.{DeclarationValue}
 use Rattle.oa_typelib.specs.Groups.{keys_with_places}
-use Rattle.oa_checks.specs.Libraries.{same}
+use Rattle.oa_sema.specs.promise.Libraries.{same}
 use Rattle.oa_typelib.proofs.Looks.{names_folded}
 use Rattle.oa_typelib.proofs.members.by_name.Goals as goal
 

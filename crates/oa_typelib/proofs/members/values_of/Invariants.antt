@@ -1,5 +1,5 @@
 use Rattle.std.proofs.Common.{◌≡◌, map, take}
-use Rattle.oa_checks.specs.Defaults.{default_value}
+use Rattle.oa_sema.specs.promise.Defaults.{default_value}
 use Rattle.oa_typelib.proofs.members.values_of.Given as goal
 
 abbrev pub invariant-loop-parameter : goal.invariant-loop-parameter

@@ -1,5 +1,5 @@
 use Rattle.std.proofs.Common.{◌≡◌, ◌++◌, ℕ, map, take, Vec, Global}
-use Rattle.oa_typelib.specs.Names.{parameter_named}
+use Rattle.oa_typelib.specs.promise.Names.{parameter_named}
 use Rattle.oa_typelib.proofs.names.add_parameters.Given as goal
 
 abbrev pub invariant-loop-name : goal.invariant-loop-name

@@ -1,6 +1,6 @@
 use Rattle.std.proofs.Common.{◌≡◌, is_some, map, take}
 use Rattle.std.specs.List.{list_all}
-use Rattle.oa_typelib.specs.Names.{or_unknown}
+use Rattle.oa_typelib.specs.promise.Names.{or_unknown}
 use Rattle.oa_typelib.proofs.names.told.Given as goal
 
 abbrev pub invariant-ids : goal.invariant-ids

@@ -1,5 +1,5 @@
 use Rattle.std.proofs.Common.{◌≡◌, ◌-◌}
-use Rattle.oa_ndr.specs.Reading.{many}
+use Rattle.oa_ndr.specs.promise.Reading.{many}
 use Rattle.oa_ndr.proofs.Loop.{with_front}
 use Rattle.oa_wire_array.specs.ArrayReading.{bound_at}
 use Rattle.oa_wire_array.proofs.array.bounds.Given as goal

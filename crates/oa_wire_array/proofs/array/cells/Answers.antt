@@ -13,4 +13,5 @@ of_cells-requires-clause-count c =
 
 pub of_cells-requires-clause-fits : goal.of_cells-requires-clause-fits
 of_cells-requires-clause-fits c =
-    All-from_recursion (Fits c.args.elem) c.in_ok-cells.cells (read_cells c.args.elem c.args.count c.args.r.now c.elements.new.r c.in_ok-cells.cells c.in_ok-cells.ensures).1
+    All-from_recursion (Fits c.args.elem) c.in_ok-cells.cells
+    (read_cells c.args.elem c.args.count c.args.r.now c.elements.new.r c.in_ok-cells.cells c.in_ok-cells.ensures).1

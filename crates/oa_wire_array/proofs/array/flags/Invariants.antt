@@ -1,5 +1,6 @@
 use Rattle.std.proofs.Common.{◌≡◌, ◌-◌}
-use Rattle.oa_ndr.specs.Reading.{many, referent_at}
+use Rattle.oa_ndr.specs.promise.Reading.{many}
+use Rattle.oa_ndr.specs.Reading.{referent_at}
 use Rattle.oa_ndr.proofs.Loop.{with_front}
 use Rattle.oa_wire_array.proofs.array.flags.Given as goal
 

@@ -9,8 +9,11 @@ use Rattle.oa_wire_array.proofs.array.plain.Goals as goal
 pub loop-i-preserved : goal.loop-i-preserved
 loop-i-preserved c =
     let len = length-set {A = Scalar} c.loop-i.cells c.loop-i.i c.in_ok-next.next in
-    rw c.replace.ensures.cells
-    (len ∙ c.loop-i.invariant.0, cells_put (arm_at c.args.elem) c.loop-i.cells c.args.count c.loop-i.i c.loop-i.r c.arm.new.r c.in_ok-next.next _ c.loop-i.invariant.0 c.loop-i-test.true c.in_ok-next.ensures.value c.loop-i.invariant.1)
+    rw c.replace.ensures.cells (
+      len ∙ c.loop-i.invariant.0,
+      cells_put (arm_at c.args.elem) c.loop-i.cells c.args.count c.loop-i.i c.loop-i.r c.arm.new.r c.in_ok-next.next _
+          c.loop-i.invariant.0 c.loop-i-test.true c.in_ok-next.ensures.value c.loop-i.invariant.1,
+    )
 
 pub returns-then-not-are_there : goal.returns-then-not-are_there
 returns-then-not-are_there c =

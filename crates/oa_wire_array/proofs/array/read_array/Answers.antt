@@ -1,11 +1,14 @@
 use Rattle.std.proofs.Common.{◌≡◌, true, is_some, refl, rules}
-use Rattle.oa_model.specs.Types.{sf_type_of}
+use Rattle.oa_model.specs.promise.Types.{sf_type_of}
 use Rattle.oa_wire_text.proofs.Fronts.{front_of, no_front_of}
 use Rattle.oa_wire_array.proofs.ArrayLaws.{array_reads}
 use Rattle.oa_wire_array.proofs.array.read_array.Goals as goal
 
 pub returns-in-Ok : goal.returns-in-Ok
-returns-in-Ok c = record { exact = front_of (array_reads c.args.elem) c.args.r.now c.fork-ahead.result c.array.new.r c.in-Ok.array c.fork-ahead.ensures c.in-Ok.ensures.value }
+returns-in-Ok c = record {
+  exact = front_of (array_reads c.args.elem) c.args.r.now c.fork-ahead.result c.array.new.r c.in-Ok.array c.fork-ahead.ensures
+      c.in-Ok.ensures.value;
+}
 
 pub returns-in-Err-BadStub : goal.returns-in-Err-BadStub
 returns-in-Err-BadStub c =

@@ -1,5 +1,5 @@
 use Rattle.std.proofs.Common.{ap, ◌∙◌, ◌%◌, length, ℕ, arith}
-use Rattle.oa_wire_array.specs.ArrayCanon.{put_array}
+use Rattle.oa_wire_array.specs.promise.ArrayCanon.{put_array}
 use Rattle.oa_wire_array.proofs.ArrayLengths.{before_cells, before_len}
 use Rattle.oa_wire_array.proofs.array_len.array_end.Goals as goal
 

@@ -1,6 +1,6 @@
 use Rattle.std.proofs.Common.{sym, ap, ◌∙◌, ◌%◌, length, ℕ, arith}
-use Rattle.oa_ndr.specs.Writing.{put_all}
-use Rattle.oa_wire_array.specs.ArrayCanon.{put_cell_referent}
+use Rattle.oa_ndr.specs.promise.Writing.{put_all}
+use Rattle.oa_wire_array.specs.promise.ArrayCanon.{put_cell_referent}
 use Rattle.oa_wire_array.proofs.ArrayLengths.{referents_len, elements_are_pointed, elements_are_plain}
 use Rattle.oa_wire_array.proofs.array_len.elements_end.Goals as goal
 

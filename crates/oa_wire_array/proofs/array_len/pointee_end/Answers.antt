@@ -1,5 +1,5 @@
 use Rattle.std.proofs.Common.{ap, length, arith}
-use Rattle.oa_ndr.specs.Forms.{padding}
+use Rattle.oa_ndr.specs.promise.Forms.{padding}
 use Rattle.oa_wire_array.proofs.ArrayLengths.{scalar_at_place, pointee_is_scalar}
 use Rattle.oa_wire_array.proofs.array_len.pointee_end.Goals as goal
 

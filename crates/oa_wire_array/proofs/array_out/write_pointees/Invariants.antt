@@ -1,6 +1,7 @@
 use Rattle.std.proofs.Common.{◌≡◌, drop}
-use Rattle.oa_ndr.specs.Writing.{TakesNothingBack, put_all}
-use Rattle.oa_wire_array.specs.ArrayCanon.{put_pointee}
+use Rattle.oa_ndr.specs.Writing.{TakesNothingBack}
+use Rattle.oa_ndr.specs.promise.Writing.{put_all}
+use Rattle.oa_wire_array.specs.promise.ArrayCanon.{put_pointee}
 use Rattle.oa_wire_array.proofs.array_out.write_pointees.Given as goal
 
 abbrev pub invariant-loop-cell : goal.invariant-loop-cell

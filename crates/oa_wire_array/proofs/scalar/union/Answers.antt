@@ -7,4 +7,7 @@ use Rattle.oa_wire_array.proofs.scalar.union.Goals as goal
 pub returns-in-Some-clause-memory : goal.returns-in-Some-clause-memory
 returns-in-Some-clause-memory c =
     let there = unit_there 4 c.args.r.now c.u32.new.self c.in_ok-discriminant.discriminant c.in_ok-discriminant.ensures in
-    on_memory c.arm.result (λ is. (sym (vt_from_type_at c.args.vt types.Bstr (sym c.from_vt.ensures ∙ c.in-Some.is ∙ ap Some is.0)), omega (arith, there, is.1))) c.arm.ensures.memory
+    on_memory c.arm.result (λ is. (
+      sym (vt_from_type_at c.args.vt types.Bstr (sym c.from_vt.ensures ∙ c.in-Some.is ∙ ap Some is.0)),
+      omega (arith, there, is.1),
+    )) c.arm.ensures.memory

@@ -2,4 +2,5 @@ use Rattle.oa_ndr.proofs.Keeping.{back_to}
 use Rattle.oa_wire_array.proofs.scalar.write_head.Goals as goal
 
 pub returns-in-Err-clause-err : goal.returns-in-Err-clause-err
-returns-in-Err-clause-err c = back_to c.args.out.now c.add_head.new.out c.truncate.new.self c.position-start.result c.add_head.ensures.kept c.position-start.ensures c.truncate.ensures
+returns-in-Err-clause-err c = back_to c.args.out.now c.add_head.new.out c.truncate.new.self c.position-start.result c.add_head.ensures.kept
+    c.position-start.ensures c.truncate.ensures

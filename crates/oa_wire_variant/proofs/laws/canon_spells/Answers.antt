@@ -1,7 +1,7 @@
 use Rattle.oa_ndr.proofs.WritingLaws.{canon_is}
-use Rattle.oa_variant.specs.Variants.{unlocked}
-use Rattle.oa_wire_variant.specs.Variants.{variant}
-use Rattle.oa_wire_variant.specs.Canon.{put_variant}
+use Rattle.oa_variant.specs.promise.Variants.{unlocked}
+use Rattle.oa_wire_variant.specs.promise.Variants.{variant}
+use Rattle.oa_wire_variant.specs.promise.Canon.{put_variant}
 use Rattle.oa_wire_variant.proofs.VariantLaws.{variant_writes}
 use Rattle.oa_wire_variant.proofs.laws.canon_spells.Goals as goal
 

@@ -9,7 +9,8 @@ use Rattle.oa_wire_array.specs.declared.fault.WireFault.{WireFault}
 use Rattle.oa_wire_array.specs.declared.fault.WireFault.TheVariants.{BadStub, BadVarType, Memory}
 use Rattle.oa_wire_text.specs.Reading.{OnMemory}
 use Rattle.oa_wire_variant.specs.Reading.{ReadsWholeField, variant_at}
-use Rattle.oa_wire_variant.specs.Variants.{Spells, ReadsVariant, TakesMemory, field_fault}
+use Rattle.oa_wire_variant.specs.promise.Variants.{Spells, field_fault}
+use Rattle.oa_wire_variant.specs.Variants.{ReadsVariant, TakesMemory}
 use Rattle.oa_wire_variant.proofs.VariantLaws.{variant_reads}
 use Rattle.oa_wire_variant.proofs.variant.read_other.Goals as goal
 
@@ -29,10 +30,12 @@ told : (P : StubFault → WireFault → Type 0) (bytes : List ℕ) (from : Resul
     → ((e : WireFault) → P faults.BadStub e → e ≡ field_fault bytes) → ((e : WireFault) → P faults.Memory e → e ≡ Memory) → ReadsVariant bytes to
 told P bytes (Ok v) to read takes is stub memory = rw is (whole_takes variant_reads bytes v read).1
 told P bytes (Err e) (Ok v) read takes is stub memory = absurd is
-told P bytes (Err faults.BadStub) (Err e) read takes is stub memory = fault_is bytes e (stub e is) (λ v h. let again = whole_again variant_reads bytes v tt h in cc)
+told P bytes (Err faults.BadStub) (Err e) read takes is stub memory =
+    fault_is bytes e (stub e is) (λ v h. let again = whole_again variant_reads bytes v tt h in cc)
 told P bytes (Err faults.Memory) (Err e) read takes is stub memory = rw (memory e is) takes
 
 pub returns : goal.returns
 returns c = record {
-  exact = told _ c.args.bytes.now c.whole.result c.map_err.result c.whole.ensures.value c.whole.ensures.memory c.map_err.ensures.cases (λ e h. search rules) (λ e h. search rules);
+  exact = told _ c.args.bytes.now c.whole.result c.map_err.result c.whole.ensures.value c.whole.ensures.memory c.map_err.ensures.cases (λ e h. search rules)
+      (λ e h. search rules);
 }

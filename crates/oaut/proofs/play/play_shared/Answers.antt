@@ -7,9 +7,9 @@ returns c = answers _ _ c.hold_shared.result (record {
   new = c.hold_shared.new.server.engine;
   begins = record {
     memory = c.in_memory-server.ensures.memory;
-    library = c.in_ok-read_library.field-0;
-    text = c.in_ok-read_library.ensures.read.0;
-    is = c.in_ok-read_library.ensures.read.1;
+    library = c.in_ok-read_library_file.field-0;
+    text = c.in_ok-read_library_file.ensures.read.0;
+    is = c.in_ok-read_library_file.ensures.read.1;
     state_is = c.in_memory-server.ensures.state;
   };
   holds = c.hold_shared.ensures.session;

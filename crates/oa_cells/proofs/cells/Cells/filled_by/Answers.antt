@@ -14,7 +14,8 @@ invariant_of-result g c =
 pub returns-clause-count : goal.returns-clause-count
 returns-clause-count g c =
     let part = c.in_ok-part-2.part in let full = is_full c.full.result part.items c.full.ensures in
-    let count : 0 + length part.items ≡ c.args.len = c.in_ok-part-2.ensures.filled.3 in let long : length (values c.full.result) ≡ length part.items = ap length full.0 in
+    let count : 0 + length part.items ≡ c.args.len = c.in_ok-part-2.ensures.filled.3 in let long : length (values c.full.result) ≡ length part.items =
+    ap length full.0 in
     omega (arith, count, long)
 
 pub returns-clause-filled : goal.returns-clause-filled

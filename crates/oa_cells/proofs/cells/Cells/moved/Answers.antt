@@ -7,7 +7,8 @@ pub invariant_of-result : goal.invariant_of-result
 invariant_of-result g c =
     let full = is_full c.full.result c.cells.part.items c.full.ensures in
     let none : length c.cells.old.items ≤ 0 = subst (λ n. n ≤ 0) c.count.ensures c.cells-test.false in
-    let count : c.args.len ≡ length c.cells.old.items + length c.cells.part.items = c.cells.invariant.len in let long : length c.full.result ≡ length c.cells.part.items = full.2 in
+    let count : c.args.len ≡ length c.cells.old.items + length c.cells.part.items = c.cells.invariant.len in
+    let long : length c.full.result ≡ length c.cells.part.items = full.2 in
     (full.1, omega (arith, none, count, long))
 
 pub returns : goal.returns

@@ -17,8 +17,10 @@ returns-clause-each g c = λ k x le here.
     let part = c.in_ok-part.part in let old = c.args.self.now in let fill = c.in_ok-part.ensures in
     let now : c.replace_with.new.dest ≡ take part.before old ++ part.items = search rules in
     let kept : c.len-kept.result ≡ length old = c.len-kept.ensures in let first : part.before ≡ min c.args.len c.len-kept.result = fill.shape.0 in
-    let all : part.before + length part.items ≡ c.args.len = fill.shape.1 in let front : length (take part.before old) ≡ min part.before (length old) = length-take part.before old in
-    each_behind _ c.args.fill (take part.before old) part.items c.len-kept.result c.args.len (omega (arith, front, first, kept)) (omega (arith, front, first, all, kept)) fill.filled k x (omega (arith, le, kept)) (ap (λ l. slice_get l k) (sym now) ∙ here)
+    let all : part.before + length part.items ≡ c.args.len = fill.shape.1 in let front : length (take part.before old) ≡ min part.before (length old) =
+    length-take part.before old in
+    each_behind _ c.args.fill (take part.before old) part.items c.len-kept.result c.args.len (omega (arith, front, first, kept))
+    (omega (arith, front, first, all, kept)) fill.filled k x (omega (arith, le, kept)) (ap (λ l. slice_get l k) (sym now) ∙ here)
 
 pub returns-in_err-part-clause-error : goal.returns-in_err-part-clause-error
 returns-in_err-part-clause-error g c =

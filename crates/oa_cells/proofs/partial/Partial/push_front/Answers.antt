@@ -17,7 +17,8 @@ invariant_of-self g c =
     let before : i.from ≡ c.args.self.now.before = ap (λ w. w.before) seen in let asked : 0 < c.args.self.now.before = c.requires in
     let room : 0 < i.from = omega (arith, before, asked) in
     let made = pushed_front i.row i.from i.to i.len inv.count inv.fits inv.shape c.put.new.self c.args.item room c.put.ensures in
-    let long : length (values c.put.new.self) ≡ suc (length (values i.row)) = ap length made.0 in let count : i.from + length (values i.row) ≡ i.to = inv.count in
+    let long : length (values c.put.new.self) ≡ suc (length (values i.row)) = ap length made.0 in let count : i.from + length (values i.row) ≡ i.to =
+    inv.count in
     record { count = omega (arith, long, count, room); fits = inv.fits; shape = made.1 }
 
 pub returns : goal.returns

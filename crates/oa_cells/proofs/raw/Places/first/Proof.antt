@@ -22,10 +22,20 @@ module _ (E : El) where
   function = inst_fn (args E) code.function
 
   abbrev ended : Ended
-  ended = record { signature = record { lifetimes = 1; outlives = []; params = RefOf (0 ∷ []) tt (plain (λ _. Pl E)) (λ _. tt) ∷ plain (λ _. St E) ∷ plain (λ _. usize) ∷ []; result = SliceRefOf (0 ∷ []) tt (plain (λ _. R E)) (λ _. tt) }; kept = (yes, (no, (no, tt))) }
+  ended = record {
+    signature = record {
+      lifetimes = 1;
+      outlives = [];
+      params = RefOf (0 ∷ []) tt (plain (λ _. Pl E)) (λ _. tt) ∷ plain (λ _. St E) ∷ plain
+          (λ _. usize) ∷ [];
+      result = SliceRefOf (0 ∷ []) tt (plain (λ _. R E)) (λ _. tt);
+    };
+    kept = (yes, (no, (no, tt)));
+  }
 
   abbrev stayed : Stays ended.signature.params ended.kept
-  stayed = (stay_dropped (RefOf (0 ∷ []) tt (plain (λ _. Pl E)) (λ _. tt)) yes, (stay_dropped (plain (λ _. St E)) no, (stay_dropped (plain (λ _. usize)) no, tt)))
+  stayed =
+      (stay_dropped (RefOf (0 ∷ []) tt (plain (λ _. Pl E)) (λ _. tt)) yes, (stay_dropped (plain (λ _. St E)) no, (stay_dropped (plain (λ _. usize)) no, tt)))
 
   abbrev Asks : (Pl E).Denot → (St E).Denot → ℕ → Type 0
   Asks p start len = (start.ptr ≡ p.at) × BeginsFilled p.slots len
@@ -34,7 +44,12 @@ module _ (E : El) where
   Tells p len xs = take len p.slots ≡ map Some xs
 
   abbrev spec : {M : Type 1} {𝓤 : Ura M} (𝓛 : Logic 𝓤) → Clauses 𝓤 ended
-  spec {𝓤 = 𝓤} 𝓛 κs a = record { ghost = Unit {0}; requires = λ _. fact 𝓤 (Asks a.0.now a.1.0 a.1.1.0); ensures = λ _ r w. fact 𝓤 (Tells a.0.now a.1.1.0 r.now) }
+  spec {𝓤 = 𝓤} 𝓛 κs a = record {
+    ghost = Unit {0};
+    requires = λ _. fact 𝓤 (Asks a.0.now a.1.0 a.1.1.0);
+    ensures = λ _ r w. fact 𝓤
+        (Tells a.0.now a.1.1.0 r.now);
+  }
 
 module _ (E : El) {M : Type 1} {𝓤 : Ura M} (𝓛 : Logic 𝓤) (C : Calls 𝓤 𝓛.H) (Λ : Loops 𝓤 𝓛.H) (κ : Lft) (q : Share) (rb ro : ℕ)
     (p : (Pl E).Denot) (start : (St E).Denot) (len : ℕ) (vs0 vs1 vs2 : List Val) where
@@ -73,9 +88,11 @@ module _ (E : El) {M : Type 1} {𝓤 : Ura M} (𝓛 : Logic 𝓤) (C : Calls �
       let at : ℕ × ℕ = (b, o) in
       take_at ! 2 $ rewrite ! 0 (λ (at : Ptr). ‵ (fat full_share (layout (St E)) (l 2) 0 (word at))) (asked.0 ∙ e) refl $ give_at ! 2 $ first ! $ blocks ! $
       use1 𝓛 (‵ (elements_shared (R E) xs b o κ)) (first_lent E 𝓛 b κ p.slots len o xs filled) $ hide ! $
-      sets_last ! (agg ! (and_then ! (get_in ! (fld ! refl (stop !)) (sub ! 0 refl (whole !))) (and_then ! (get ! refl) (no_more !)))) refl (tt, (tt, (record { fits = fits }, tt))) $
+      sets_last ! (agg ! (and_then ! (get_in ! (fld ! refl (stop !)) (sub ! 0 refl (whole !))) (and_then ! (get ! refl) (no_more !)))) refl
+      (tt, (tt, (record { fits = fits }, tt))) $
       exec ! C Λ En (after 1 (function E).body) (at_ret En Post) $ sets ! (of_opd ! (get ! refl)) refl (tt, (tt, (record { fits = fits }, tt))) $
-      flt_i ! (length xs * size E) (2 ^ 63) (times_below (length xs) n (size E) (2 ^ 63) (omega (arith, asked.1.0, long)) small) $ flt_i ! (length xs) (2 ^ 64) (omega (arith, long, fits)) $ fjoin ! $
+      flt_i ! (length xs * size E) (2 ^ 63) (times_below (length xs) n (size E) (2 ^ 63) (omega (arith, asked.1.0, long)) small) $ flt_i ! (length xs) (2 ^ 64)
+      (omega (arith, long, fits)) $ fjoin ! $
       feq_i ! (List Val) (slice_val at len ∷ []) (slice_val at (length xs) ∷ []) (ap (λ k. slice_val at k ∷ []) (sym long)) $ fjoin ! $ fjoin ! $
       returns ! (look_at ! 0 refl) $ free_all ! refl $ keep ! (1 ∷ 0 ∷ []) $ by ! (at_end (record { ref_ptr = at; now = xs }) (slice_val at len) filled))))
 
@@ -83,7 +100,8 @@ module _ (E : El) {M : Type 1} {𝓤 : Ura M} (𝓛 : Logic 𝓤) (C : Calls �
       (WpFn 𝓤 H C Λ (function E) (vs0 ++ (vs1 ++ (vs2 ++ []))) Post)
   entry asked =
       qed 𝓛 ((‵ (flft κ q) ⊛ ‵ ftrue) ∷ ‵ (owns (ShrRef (named 0) κ (Pl E) ∷ St E ∷ usize ∷ []) (self, (start, (len, tt))) (vs0, (vs1, (vs2, tt)))) ∷ []) ∵
-      split ! $ move ! (2 ∷ []) $ fsplit ! $ fsplit ! $ feq_l ! (λ e0. move ! (1 ∷ []) $ fsplit ! $ start_had ! start.ptr vs1 (λ e1. fsplit ! $ fsplit ! $ feq_l ! (λ e2. flt_l ! (λ fits.
+      split ! $ move ! (2 ∷ []) $ fsplit ! $ fsplit ! $ feq_l !
+      (λ e0. move ! (1 ∷ []) $ fsplit ! $ start_had ! start.ptr vs1 (λ e1. fsplit ! $ fsplit ! $ feq_l ! (λ e2. flt_l ! (λ fits.
       keep ! (1 ∷ 2 ∷ []) $
       by ! (subst (λ (vss : List Val × List Val × List Val). ent 𝓤 (⋆ 𝓛 Given) (WpFn 𝓤 H C Λ (function E) (vss.0 ++ (vss.1 ++ (vss.2 ++ []))) Post))
       (λ i. (sym e0 i, sym e1 i, sym e2 i)) (walk asked fits))))))
@@ -92,7 +110,10 @@ meets : (E : El) {M : Type 1} {𝓤 : Ura M} (𝓛 : Logic 𝓤) (𝓣 : Tables 
     → Meets 𝓛 (ended E).signature (WpFn 𝓤 𝓛.H 𝓣.C 𝓣.Λ (function E)) (closing 𝓛 (ended E) (spec E 𝓛))
 meets E {𝓤 = 𝓤} 𝓛 𝓣 =
     let Run = WpFn 𝓤 𝓛.H 𝓣.C 𝓣.Λ (function E) in
-    walk_Meets 𝓛 (ended E) (stayed E) (Goes-dropped 𝓛 1 (RefOf (0 ∷ []) tt (plain (λ _. Pl E)) (λ _. tt)) yes (λ κs x f. refl), (Goes-dropped 𝓛 1 (plain (λ _. St E)) no (λ κs x f. refl), (Goes-dropped 𝓛 1 (plain (λ _. usize)) no (λ κs x f. refl), tt))) (spec E 𝓛) Run (WpFn-mono 𝓤 𝓛.H 𝓛.laws 𝓣 (function E)) (λ z.
+    walk_Meets 𝓛 (ended E) (stayed E) (
+      Goes-dropped 𝓛 1 (RefOf (0 ∷ []) tt (plain (λ _. Pl E)) (λ _. tt)) yes (λ κs x f. refl),
+      (Goes-dropped 𝓛 1 (plain (λ _. St E)) no (λ κs x f. refl), (Goes-dropped 𝓛 1 (plain (λ _. usize)) no (λ κs x f. refl), tt)),
+    ) (spec E 𝓛) Run (WpFn-mono 𝓤 𝓛.H 𝓛.laws 𝓣 (function E)) (λ z.
     let a = z.0.3 in let vs = z.0.4 in let self = a.0 in
     needs 𝓤 (Asks E self.now a.1.0 a.1.1.0) _ (entry E 𝓛 𝓣.C 𝓣.Λ z.0.0.0 z.0.1.0 self.ref_ptr.0 self.ref_ptr.1 self.now a.1.0 a.1.1.0 vs.0 vs.1.0 vs.1.1.0))
 

@@ -1,6 +1,6 @@
 use Rattle.std.proofs.Common.{rules, ◌≡◌, ℤ, Option, to_z, of_z, w32, sym, ◌∙◌, subst}
 use Rattle.std.specs.Prelude.{IfSome}
-use Rattle.oa_coerce.specs.Answers.{coerced}
+use Rattle.oa_coerce.specs.promise.Answers.{coerced}
 use Rattle.oa_record.specs.ValueCalls.{bringing}
 use Rattle.oa_record.specs.declared.opcode.ByCall.TheVariants.{Invoke}
 use Rattle.oa_record.specs.declared.request.Request.TheVariants.{ByCall}

@@ -1,6 +1,6 @@
 use Rattle.std.proofs.Common.{◌≡◌, ◌+◌, ◌*◌, ◌++◌, length}
 use Rattle.std.specs.List.{flat_map}
-use Rattle.oa_decision.specs.Listing.{entry_of}
+use Rattle.oa_decision.specs.promise.Listing.{entry_of}
 use Rattle.oa_decision.proofs.decider.listing.put_objects.Given as goal
 
 abbrev pub invariant-objects : goal.invariant-objects

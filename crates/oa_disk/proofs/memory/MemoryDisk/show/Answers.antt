@@ -1,8 +1,9 @@
 use Rattle.std.proofs.Common.{List, ℕ, length, sym, subst, arith}
 use Rattle.oa_disk.specs.Disk.{HasBytesAt}
 use Rattle.oa_disk.specs.declared.call.DeviceCall.{DeviceCall}
-use Rattle.oa_disk.specs.Ledger.{laid}
-use Rattle.oa_disk.specs.Replay.{AllInside, contents_after}
+use Rattle.oa_disk.specs.promise.CallLog.{laid}
+use Rattle.oa_disk.specs.Replay.{AllInside}
+use Rattle.oa_disk.specs.promise.Disk.{contents_after}
 use Rattle.oa_disk.proofs.Calls.{inside_more}
 use Rattle.oa_disk.proofs.memory.MemoryDisk.show.Goals as goal
 

@@ -2,7 +2,7 @@ use Rattle.std.proofs.Common.{List, ℕ, [], refl, subst}
 use Rattle.oa_disk.specs.declared.call.DeviceCall.TheVariants.{Read}
 use Rattle.oa_disk.specs.Disk.{HasBytesAt}
 use Rattle.oa_disk.specs.History.{with_call}
-use Rattle.oa_disk.specs.Ledger.{history}
+use Rattle.oa_disk.specs.promise.CallLog.{history}
 use Rattle.oa_disk.specs.declared.disk.DeviceFault.TheVariants as faults
 use Rattle.oa_disk.proofs.Entered.{is_history, recorded, refused, either_of}
 use Rattle.oa_disk.proofs.Recorded.{whole_is, same_whole, time_is, read_stays}

@@ -2,7 +2,7 @@ use Rattle.std.proofs.Common.{[], refl}
 use Rattle.std.proofs.lemmas.Result.{on_ok_weaker}
 use Rattle.oa_disk.specs.declared.call.DeviceCall.TheVariants.{Sync}
 use Rattle.oa_disk.specs.declared.disk.DeviceFault.TheVariants as faults
-use Rattle.oa_disk.specs.Ledger.{history}
+use Rattle.oa_disk.specs.promise.CallLog.{history}
 use Rattle.oa_disk.proofs.Entered.{recorded, refused, either_of, on_err_weaker}
 use Rattle.oa_disk.proofs.Recorded.{whole_is, time_is, same_whole, same_time, same_stays, sync_syncs, sync_images}
 use Rattle.oa_disk.proofs.memory.MemoryDiskDisk.sync.Goals as goal

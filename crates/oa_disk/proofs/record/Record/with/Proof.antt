@@ -41,7 +41,13 @@ use Rattle.oa_disk.proofs.record.Record.with.Code as code
 abbrev stayed : Stays (f.ended).signature.params (f.ended).kept
 stayed = (
   stay_none_ref (0 ∷ []) tt (plain (λ _. record_type.the_row)) yes,
-  (stay_none_ref (1 ∷ []) tt (plain (λ _. call_type.the_row)) yes, (stay_none_slice (2 ∷ []) tt (plain (λ _. u8)) yes, (stay_none_ref (3 ∷ []) tt (plain (λ _. u64)) yes, (stay_none_slice (4 ∷ []) tt (plain (λ _. u8)) yes, tt)))),
+  (
+    stay_none_ref (1 ∷ []) tt (plain (λ _. call_type.the_row)) yes,
+    (
+      stay_none_slice (2 ∷ []) tt (plain (λ _. u8)) yes,
+      (stay_none_ref (3 ∷ []) tt (plain (λ _. u64)) yes, (stay_none_slice (4 ∷ []) tt (plain (λ _. u8)) yes, tt)),
+    ),
+  ),
 )
 
 module _ {M : Type 1} {𝓤 : Ura M} (𝓛 : Logic 𝓤) (mem : Memory → SProp 𝓤) (run : Routine → Fun 𝓤) (C : Calls 𝓤 𝓛.H) (Λ : Loops 𝓤 𝓛.H) where
@@ -77,18 +83,26 @@ module _ {M : Type 1} {𝓤 : Ura M} (𝓛 : Logic 𝓤) (mem : Memory → SProp
         (WpFn 𝓤 H C Λ code.function (self ∷ call ∷ written ∷ at ∷ given ∷ []) ((walk_of 𝓛 f.ended stayed (f.clauses 𝓛 mem run)).post bound))
     walk fit_written fit_given =
         qed 𝓛 (raw (alive 𝓛 f.signature κs qs) ∷ ‵ passed ∷ []) ∵ enter ! C Λ code.function (self ∷ call ∷ written ∷ at ∷ given ∷ []) _ $
-        alloc_all ! (λ l. pass_all ! refl ((tt, tt), ((tt, tt), ((tt, (tt, (record { fits = fit_written }, tt))), ((tt, tt), ((tt, (tt, (record { fits = fit_given }, tt))), tt))))) $ sets ! (agg ! (no_more !)) refl (tt, tt) $
+        alloc_all !
+        (λ l. pass_all ! refl
+        ((tt, tt), ((tt, tt), ((tt, (tt, (record { fits = fit_written }, tt))), ((tt, tt), ((tt, (tt, (record { fits = fit_given }, tt))), tt))))) $ sets !
+        (agg ! (no_more !)) refl (tt, tt) $
         returns ! (look_at ! 0 refl) $ free_all ! refl $
-        suffices ! _ (ends_at 𝓛 f.ended stayed (f.clauses 𝓛 mem run) bound (vstruct vnil) made (tt, (tt, (tt, (tt, (tt, tt))))) (tt, (tt, (tt, (tt, (tt, tt)))))) $
+        suffices ! _ (ends_at 𝓛 f.ended stayed (f.clauses 𝓛 mem run) bound (vstruct vnil) made (tt, (tt, (tt, (tt, (tt, tt)))))
+        (tt, (tt, (tt, (tt, (tt, tt)))))) $
         says ! refl $ pure_i ! (record_type.the_row.own_val made (vstruct vnil ∷ [])) ((λ vss. (tt, tt)), tt) ((tt, (refl, tt)), tt) $
         move ! (1 ∷ 2 ∷ 0 ∷ []) $ done !)
 
   walks : Walks 𝓛 f.ended stayed (WpFn 𝓤 H C Λ code.function) (f.clauses 𝓛 mem run)
   walks =
-      walked 𝓛 f.ended stayed (f.clauses 𝓛 mem run) (WpFn 𝓤 H C Λ code.function) (λ κs. (shr_vals, (shr_vals, (shr_slice_vals, (shr_vals, (shr_slice_vals, tt))))))
+      walked 𝓛 f.ended stayed (f.clauses 𝓛 mem run) (WpFn 𝓤 H C Λ code.function)
+      (λ κs. (shr_vals, (shr_vals, (shr_slice_vals, (shr_vals, (shr_slice_vals, tt))))))
       (λ κs. (
         shr_Tells (named 0) κs.0 record_type.the_row,
-        (shr_Tells (named 1) κs.1.0 call_type.the_row, (shr_slice_Tells (named 2) κs.1.1.0 u8, (shr_Tells (named 3) κs.1.1.1.0 u64, (shr_slice_Tells (named 4) κs.1.1.1.1.0 u8, tt)))),
+        (
+          shr_Tells (named 1) κs.1.0 call_type.the_row,
+          (shr_slice_Tells (named 2) κs.1.1.0 u8, (shr_Tells (named 3) κs.1.1.1.0 u64, (shr_slice_Tells (named 4) κs.1.1.1.1.0 u8, tt))),
+        ),
       ))
       (λ κs qs bounds a g are. via 𝓤 _ (fst∗ 𝓤 _ (emp 𝓤)) (walk κs qs a are.1.1.0.0.1.0 are.1.1.1.1.0.0.1.0))
 
@@ -97,7 +111,13 @@ meets : {M : Type 1} {𝓤 : Ura M} (𝓛 : Logic 𝓤) (mem : Memory → SProp 
 meets {𝓤 = 𝓤} 𝓛 mem run 𝓣 =
     walk_Meets 𝓛 f.ended stayed (
       Goes-none_ref 𝓛 5 (0 ∷ []) tt (plain (λ _. record_type.the_row)) yes,
-      (Goes-none_ref 𝓛 5 (1 ∷ []) tt (plain (λ _. call_type.the_row)) yes, (Goes-none_slice 𝓛 5 (2 ∷ []) tt (plain (λ _. u8)) yes, (Goes-none_ref 𝓛 5 (3 ∷ []) tt (plain (λ _. u64)) yes, (Goes-none_slice 𝓛 5 (4 ∷ []) tt (plain (λ _. u8)) yes, tt)))),
+      (
+        Goes-none_ref 𝓛 5 (1 ∷ []) tt (plain (λ _. call_type.the_row)) yes,
+        (
+          Goes-none_slice 𝓛 5 (2 ∷ []) tt (plain (λ _. u8)) yes,
+          (Goes-none_ref 𝓛 5 (3 ∷ []) tt (plain (λ _. u64)) yes, (Goes-none_slice 𝓛 5 (4 ∷ []) tt (plain (λ _. u8)) yes, tt)),
+        ),
+      ),
     ) (f.clauses 𝓛 mem run) (WpFn 𝓤 𝓛.H 𝓣.C 𝓣.Λ code.function)
     (WpFn-mono 𝓤 𝓛.H 𝓛.laws 𝓣 code.function) (walks 𝓛 mem run 𝓣.C 𝓣.Λ)
 

@@ -1,5 +1,5 @@
 use Rattle.std.proofs.Common.{[], sym, ap, ◌∙◌, refl}
-use Rattle.oa_gateway.specs.Queues.{begun, next_batch}
+use Rattle.oa_gateway.specs.Queues.{begun_queue, next_batch}
 use Rattle.oa_gateway.proofs.Placed.{all_wait, clients_are}
 use Rattle.oa_gateway.proofs.queue.Queue.renew.Goals as goal
 
@@ -8,4 +8,4 @@ returns-then-self-gt0-clause-done c _ =
     let q = c.close_up.new.self in
     let e = c.close_up.ensures.kept in
     clients_are _ _ _ _ refl (all_wait c.close_up.new.places q.kept q.next q.end (e.0 ∙ sym e.1) c.close_up.ensures.queue.1)
-    ∙ ap (λ l. begun (next_batch l)) c.close_up.ensures.same
+    ∙ ap (λ l. begun_queue (next_batch l)) c.close_up.ensures.same

@@ -10,7 +10,8 @@ pub returns-in_err-library-clause-refused : goal.returns-in_err-library-clause-r
 returns-in_err-library-clause-refused g c =
     let p = err_from_is_err_and c.from_residual.result c.from_residual.ensures.1 in
     let fault = c.in_err-library.field-0.0 in
-    rw (p.1, p.2) (refused_then g.D.Disk _ _ fault refl refl (λ at h is none. inl (c.in_err-library.ensures.head at (ap (λ (x : BankFault). Err x) is), none)) c.in_err-library.ensures.refused)
+    rw (p.1, p.2) (refused_then g.D.Disk _ _ fault refl refl (λ at h is none. inl (c.in_err-library.ensures.head at (ap (λ (x : BankFault). Err x) is), none))
+    c.in_err-library.ensures.refused)
 
 pub returns-in_err-table-clause-refused : goal.returns-in_err-table-clause-refused
 returns-in_err-table-clause-refused g c =

@@ -9,7 +9,8 @@ some x = Some x
 -- the key is there
 pub returns-in-Ok-clause-old : goal.returns-in-Ok-clause-old
 returns-in-Ok-clause-old g c =
-    rw c.in-One.is (ap some c.replace.ensures.value ∙ (sym c.value_mut.ensures.value ∙ row_read g.K.Ord.cmp c.args.key c.in-One.row c.as_slice.ensures c.in-Ok.at c.in-Ok.ensures.found))
+    rw c.in-One.is (ap some c.replace.ensures.value
+    ∙ (sym c.value_mut.ensures.value ∙ row_read g.K.Ord.cmp c.args.key c.in-One.row c.as_slice.ensures c.in-Ok.at c.in-Ok.ensures.found))
 
 pub returns-in-Ok-clause-entries : goal.returns-in-Ok-clause-entries
 returns-in-Ok-clause-entries g c =
@@ -18,7 +19,8 @@ returns-in-Ok-clause-entries g c =
 -- it is not
 pub returns-in_err-insert-in-Err-clause-absent : goal.returns-in_err-insert-in-Err-clause-absent
 returns-in_err-insert-in-Err-clause-absent g c =
-    rw c.in-One.is (on_err_always c.from_residual.result (row_absent g.K.Ord.cmp c.args.key c.in-One.row c.as_slice.ensures c.in-Err.at c.in-Err.ensures.absent))
+    rw c.in-One.is (on_err_always c.from_residual.result
+    (row_absent g.K.Ord.cmp c.args.key c.in-One.row c.as_slice.ensures c.in-Err.at c.in-Err.ensures.absent))
 
 pub returns-in_ok-insert-in-Err-clause-old : goal.returns-in_ok-insert-in-Err-clause-old
 returns-in_ok-insert-in-Err-clause-old g c =
@@ -26,4 +28,5 @@ returns-in_ok-insert-in-Err-clause-old g c =
 
 pub returns-in_ok-insert-in-Err-clause-entries : goal.returns-in_ok-insert-in-Err-clause-entries
 returns-in_ok-insert-in-Err-clause-entries g c =
-    rw c.in-One.is (c.split_long_row.ensures.same ∙ (c.in_ok-insert-in-Err.ensures.ok ∙ row_put g.K.Ord.cmp c.args.key c.in-One.row c.as_slice.ensures c.in-Err.at c.in-Err.ensures.absent c.args.value))
+    rw c.in-One.is (c.split_long_row.ensures.same
+    ∙ (c.in_ok-insert-in-Err.ensures.ok ∙ row_put g.K.Ord.cmp c.args.key c.in-One.row c.as_slice.ensures c.in-Err.at c.in-Err.ensures.absent c.args.value))

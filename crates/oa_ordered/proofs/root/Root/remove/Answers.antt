@@ -4,7 +4,8 @@ use Rattle.oa_ordered.proofs.root.Root.remove.Goals as goal
 
 pub returns-in-Ok-clause-value : goal.returns-in-Ok-clause-value
 returns-in-Ok-clause-value g c =
-    rw c.in-One.is (sym (row_lookup g.K.Ord.cmp c.args.key.now c.in-One.row c.as_slice.ensures c.in-Ok.at c.in-Ok.ensures.found c.remove-key.result c.remove-key.result c.remove-key.ensures.entry))
+    rw c.in-One.is (sym (row_lookup g.K.Ord.cmp c.args.key.now c.in-One.row c.as_slice.ensures c.in-Ok.at c.in-Ok.ensures.found c.remove-key.result
+    c.remove-key.result c.remove-key.ensures.entry))
 
 pub returns-in-Ok-clause-entries : goal.returns-in-Ok-clause-entries
 returns-in-Ok-clause-entries g c =

@@ -4,10 +4,12 @@ use Rattle.oa_stream.proofs.outlet.OutletSink.put.Goals.{in-Bytes, in-Again+else
 use Rattle.oa_stream.proofs.outlet.OutletSink.put.Goals as goal
 
 pub returns-in-Fault-clause-puts : goal.returns-in-Fault-clause-puts
-returns-in-Fault-clause-puts g c = stays_broken _ _ c.args.bytes.now c.calls.at refl refl (appends_kept _ _ _ _ c.calls.invariant.written c.in-Fault.ensures.took.0) c.in-Fault.ensures.took.1
+returns-in-Fault-clause-puts g c = stays_broken _ _ c.args.bytes.now c.calls.at refl refl
+    (appends_kept _ _ _ _ c.calls.invariant.written c.in-Fault.ensures.took.0) c.in-Fault.ensures.took.1
 
 pub returns-then-self-ge-MOST_TRIES-clause-puts : goal.returns-then-self-ge-MOST_TRIES-clause-puts
-returns-then-self-ge-MOST_TRIES-clause-puts g c = stays_broken _ _ c.args.bytes.now c.calls.at refl refl (appends_kept _ _ _ _ c.calls.invariant.written c.in-Again.ensures.took.0) refl
+returns-then-self-ge-MOST_TRIES-clause-puts g c = stays_broken _ _ c.args.bytes.now c.calls.at refl refl
+    (appends_kept _ _ _ _ c.calls.invariant.written c.in-Again.ensures.took.0) refl
 
 pub calls-preserved : goal.calls-preserved
 calls-preserved g c =

@@ -1,5 +1,5 @@
 use Rattle.std.proofs.Common.{◌≡◌}
-use Rattle.oa_table.specs.Objects.{any_locked}
+use Rattle.oa_table.specs.promise.Objects.{any_locked}
 use Rattle.oa_table.proofs.live.LiveObject.is_locked.Given as goal
 
 abbrev pub invariant-cells : goal.invariant-cells

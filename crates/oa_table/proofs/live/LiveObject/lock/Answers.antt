@@ -1,9 +1,10 @@
 use Rattle.std.proofs.Common.{sym}
-use Rattle.oa_table.specs.Elements.{locked_value}
+use Rattle.oa_table.specs.promise.Elements.{locked_value}
 use Rattle.oa_table.proofs.Through.{counts_in_cell}
 use Rattle.oa_table.proofs.live.LiveObject.lock.Goals as goal
 
 pub returns : goal.returns
 returns c =
-    rw (← c.self.view_is) (counts_in_cell c.args.place.now locked_value c.self.inside.class c.self.inside.cells _ c.in-Some.value.now c.lock.new.value (sym c.in-Some.ensures.value)
+    rw (← c.self.view_is) (counts_in_cell c.args.place.now locked_value c.self.inside.class c.self.inside.cells _ c.in-Some.value.now c.lock.new.value
+    (sym c.in-Some.ensures.value)
     (c.get_mut.follows.holds c.lock.new.value) c.lock.result c.lock.ensures)

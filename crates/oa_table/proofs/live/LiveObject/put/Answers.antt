@@ -8,7 +8,8 @@ use Rattle.oa_table.proofs.Through.{does_in_cell, does_told, told_by, told_where
 use Rattle.oa_table.proofs.live.LiveObject.put.Goals as goal
 
 -- sizes before and after, with what is taken and added
-sizes : {E F : Type 0} (g : E → F) (gone come old new : ℕ) (result : Result Difference (E × TableFault)) → IfOk result (λ d. d.gone ≡ gone) → IfOk result (λ d. d.come ≡ come)
+sizes : {E F : Type 0} (g : E → F) (gone come old new : ℕ) (result : Result Difference (E × TableFault)) → IfOk result (λ d. d.gone ≡ gone)
+    → IfOk result (λ d. d.come ≡ come)
     → new + gone ≡ old + come → IfOk (told_by g result) (λ d. new + d.gone ≡ old + d.come)
 sizes g gone come old new (Ok d) is more sum = rw (is, more) sum
 sizes g gone come old new (Err e) is more sum = tt
@@ -25,7 +26,8 @@ returns-clause-does c =
 
 pub returns-clause-size : goal.returns-clause-size
 returns-clause-size c =
-    let sum = set_sum c.args.place c.self.inside.class c.self.inside.cells _ c.in-Some.old.now c.replace.new.old (sym c.in-Some.ensures.value) (c.get_mut.follows.holds c.replace.new.old) in
+    let sum = set_sum c.args.place c.self.inside.class c.self.inside.cells _ c.in-Some.old.now c.replace.new.old (sym c.in-Some.ensures.value)
+    (c.get_mut.follows.holds c.replace.new.old) in
     let told = told_where_made (λ v. (c.args.place, v)) _ c.replace.result c.map_err.result c.map_err.ensures.cases (λ e f h. search rules) in
     rw (← c.self.view_is, told) (sizes (λ v. (c.args.place, v)) _ _ _ _ c.replace.result c.replace.ensures.gone c.replace.ensures.come (omega (arith, sum)))
 

@@ -1,5 +1,5 @@
 use Rattle.std.proofs.Common.{◌≡◌, sym, arith}
-use Rattle.oa_table.specs.Elements.{locks_of}
+use Rattle.oa_table.specs.promise.Elements.{locks_of}
 use Rattle.oa_table.proofs.Sums.{put_free_due, put_over_due}
 use Rattle.oa_table.proofs.live.LiveObject.put_difference.Goals as goal
 

@@ -1,5 +1,5 @@
 use Rattle.std.proofs.Common.{◌≡◌, Ok, arith, rules}
-use Rattle.oa_table.specs.Objects.{with_put}
+use Rattle.oa_table.specs.promise.Objects.{with_put}
 use Rattle.oa_table.proofs.Sums.{put_free_sum}
 use Rattle.oa_table.proofs.live.LiveObject.put_new.Goals as goal
 

@@ -1,5 +1,5 @@
 use Rattle.std.proofs.Common.{sym}
-use Rattle.oa_table.specs.Elements.{redimensioned_value}
+use Rattle.oa_table.specs.promise.Elements.{redimensioned_value}
 use Rattle.oa_table.proofs.Sums.{cell_due}
 use Rattle.oa_table.proofs.live.LiveObject.redim_difference.Goals as goal
 

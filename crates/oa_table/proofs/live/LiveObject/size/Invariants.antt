@@ -1,6 +1,7 @@
 use Rattle.std.proofs.Common.{◌≡◌, ◌+◌, ◌*◌, ◌≤◌, length}
 use Rattle.std.specs.List.{sum_by}
-use Rattle.oa_table.specs.Sizes.{cell_size, largest_cell, largest_object}
+use Rattle.oa_table.specs.promise.Sizes.{cell_size}
+use Rattle.oa_table.specs.Sizes.{largest_cell, largest_object}
 use Rattle.oa_table.proofs.live.LiveObject.size.Given as goal
 
 abbrev pub invariant-cells : goal.invariant-cells

@@ -1,6 +1,6 @@
 use Rattle.std.proofs.Common.{◌<◌, All, ap, List, ℕ}
 use Rattle.std.specs.Map.{keys_of}
-use Rattle.oa_table.specs.Tables.{ObjectValue, TableValue}
+use Rattle.oa_table.specs.promise.Tables.{ObjectValue, TableValue}
 use Rattle.oa_table.proofs.Ordered.{goes_last}
 use Rattle.oa_table.proofs.objects.Objects.push.Goals as goal
 

@@ -1,5 +1,6 @@
 use Rattle.std.proofs.Common.{ap, arith, ◌≤◌}
-use Rattle.oa_table.specs.Sizes.{largest_image, table_size}
+use Rattle.oa_table.specs.Sizes.{largest_image}
+use Rattle.oa_table.specs.promise.Sizes.{table_size}
 use Rattle.oa_table.proofs.Starved.{too_long}
 use Rattle.oa_table.proofs.table.Table.change.Goals as goal
 

@@ -1,5 +1,5 @@
 use Rattle.std.proofs.Common.{arith, ap}
-use Rattle.oa_table.specs.Sizes.{table_size}
+use Rattle.oa_table.specs.promise.Sizes.{table_size}
 use Rattle.oa_table.proofs.Sums.{create_due, object_within}
 use Rattle.oa_table.proofs.table.Table.size_with.Goals as goal
 
@@ -10,7 +10,8 @@ pub returns : goal.returns
 returns c =
     λ class. omega (
       arith,
-      create_due c.args.number class c.args.self.now c.numbers_rise.ensures (omega (arith, c.next.ensures, c.if-number-next.false)) (omega (arith, c.if-number-gt-GREATEST_OBJECT_NUMBER.false)),
+      create_due c.args.number class c.args.self.now c.numbers_rise.ensures (omega (arith, c.next.ensures, c.if-number-next.false))
+          (omega (arith, c.if-number-gt-GREATEST_OBJECT_NUMBER.false)),
       c.size_of.ensures,
       c.self.invariant.sum,
       ap table_size c.self.view_is,

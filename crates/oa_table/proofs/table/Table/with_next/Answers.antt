@@ -1,5 +1,6 @@
 use Rattle.std.proofs.Common.{subst, sym, refl, arith}
-use Rattle.oa_table.specs.Sizes.{HasKeptSize, table_size}
+use Rattle.oa_table.specs.Sizes.{HasKeptSize}
+use Rattle.oa_table.specs.promise.Sizes.{table_size}
 use Rattle.oa_table.proofs.table.Table.with_next.Goals as goal
 
 pub invariant_of-result : goal.invariant_of-result

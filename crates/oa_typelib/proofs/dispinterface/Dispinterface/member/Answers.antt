@@ -1,6 +1,6 @@
 use Rattle.std.proofs.Common.{◌≡◌, ℤ, subst}
 use Rattle.std.proofs.Math.Facts.{to_z-of_z}
-use Rattle.oa_typelib.specs.Members.{forms_with, main_form}
+use Rattle.oa_typelib.specs.promise.Members.{forms_with, main_form}
 use Rattle.oa_typelib.proofs.Found.{found_formed, member_bindable}
 use Rattle.oa_typelib.proofs.dispinterface.Dispinterface.member.Goals as goal
 

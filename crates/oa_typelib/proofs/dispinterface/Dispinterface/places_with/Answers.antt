@@ -2,7 +2,7 @@ use Rattle.std.proofs.Common.{◌≡◌, ℤ, position, ap, subst, slice_get, �
 use Rattle.std.proofs.Math.Facts.{to_z-of_z}
 use Rattle.std.specs.List.{filter_map}
 use Rattle.std.specs.Ordering.{int_eq}
-use Rattle.oa_checks.specs.Declarations.{declarations}
+use Rattle.oa_sema.specs.promise.Declarations.{declarations}
 use Rattle.oa_typelib.specs.Groups.{places_in}
 use Rattle.oa_typelib.specs.IndexValues.{MembersValue}
 use Rattle.oa_typelib.proofs.Looks.{with_id}
@@ -10,7 +10,9 @@ use Rattle.oa_typelib.proofs.dispinterface.Dispinterface.places_with.Goals as go
 
 pub returns : goal.returns
 returns c =
-    let p = subst (λ (z : ℤ). c.places_of.result.now ≡ places_in (position (int_eq z) c.members.inside.by_id.keys) c.members.inside.by_id.places) (to_z-of_z c.ranges.id) c.places_of.ensures in
+    let p = subst (λ (z : ℤ). c.places_of.result.now ≡ places_in (position (int_eq z) c.members.inside.by_id.keys) c.members.inside.by_id.places)
+    (to_z-of_z c.ranges.id) c.places_of.ensures in
     rw (← c.self.view_is)
-    (ap (filter_map (slice_get (declarations c.self.inside.interface.now))) (p ∙ ap (λ (m : MembersValue). places_in (position (int_eq c.args.id) m.by_id.keys) m.by_id.places) c.members.view_is)
+    (ap (filter_map (slice_get (declarations c.self.inside.interface.now)))
+    (p ∙ ap (λ (m : MembersValue). places_in (position (int_eq c.args.id) m.by_id.keys) m.by_id.places) c.members.view_is)
     ∙ with_id c.self.inside.members.now (declarations c.self.inside.interface.now) c.self.invariant.0 c.args.id)

@@ -1,5 +1,5 @@
 use Rattle.std.proofs.Common.{ap, ◌∙◌}
-use Rattle.oa_idl.specs.Trees.{TreeValue}
+use Rattle.oa_idl.specs.promise.Trees.{TreeValue}
 use Rattle.oa_typelib.specs.IndexValues.{IndexValue}
 use Rattle.oa_typelib.specs.Indexes.{flag_at, index_of}
 use Rattle.oa_typelib.proofs.library.Library.enters.Goals as goal

@@ -1,10 +1,10 @@
 use Rattle.std.proofs.Common.{IfSome, Option, slice_get, List, ap, sym, subst, ◌∙◌}
 use Rattle.std.specs.Option.{option_and_then}
-use Rattle.oa_idl.specs.Values.{InterfaceValue}
+use Rattle.oa_idl.specs.promise.Values.{InterfaceValue}
 use Rattle.oa_idl.specs.declared.items.Item.{Item}
 use Rattle.oa_typelib.specs.Bindable.{AreSound}
-use Rattle.oa_checks.specs.Declarations.{declarations}
-use Rattle.oa_checks.specs.Libraries.{as_interface}
+use Rattle.oa_sema.specs.promise.Declarations.{declarations}
+use Rattle.oa_sema.specs.promise.Libraries.{as_interface}
 use Rattle.oa_typelib.proofs.Classes.{tree_whole}
 use Rattle.oa_typelib.proofs.Found.{interface_at_sound}
 use Rattle.oa_typelib.proofs.library.Library.interface_at.Goals as goal

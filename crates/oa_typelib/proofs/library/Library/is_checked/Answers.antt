@@ -1,5 +1,5 @@
 use Rattle.std.proofs.Common.{subst}
-use Rattle.oa_typelib.specs.Checked.{IsChecked}
+use Rattle.oa_typelib.specs.promise.Checked.{IsChecked}
 use Rattle.oa_typelib.proofs.library.Library.is_checked.Goals as goal
 
 pub returns : goal.returns

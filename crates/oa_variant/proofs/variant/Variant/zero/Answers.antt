@@ -1,7 +1,7 @@
 use Rattle.std.proofs.Common.{ap, ◌∙◌, [], ◌∷◌}
 use Rattle.oa_variant.proofs.Zeros.{no_cells}
-use Rattle.oa_variant.specs.Variants.{no_indices}
-use Rattle.oa_variant.specs.Scalars.{zero_of}
+use Rattle.oa_variant.specs.promise.Variants.{no_indices}
+use Rattle.oa_variant.specs.promise.Scalars.{zero_of}
 use Rattle.oa_variant.specs.declared.variant.Variant.TheVariants.{Array}
 use Rattle.oa_variant.proofs.variant.Variant.zero.Goals as goal
 

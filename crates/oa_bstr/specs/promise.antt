@@ -1,0 +1,2 @@
+-- The definitions that README's promises need.
+pub mod Text

@@ -1,5 +1,0 @@
-use Rattle.oa_canonical.proofs.MarkedTrees.{printable_marked}
-use Rattle.oa_canonical.proofs.laws.marked_is_printable.Goals as goal
-
-pub returns : goal.returns
-returns c = printable_marked

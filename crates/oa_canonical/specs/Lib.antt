@@ -1,3 +1,0 @@
-pub mod Canonical
-pub mod Marked
-pub mod Printable

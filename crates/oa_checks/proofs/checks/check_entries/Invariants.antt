@@ -1,7 +1,0 @@
-use Rattle.std.proofs.Common.{◌≡◌, drop}
-use Rattle.oa_checks.specs.Breaches.{unknown_name}
-use Rattle.oa_checks.specs.Repeats.{first_answer}
-use Rattle.oa_checks.proofs.checks.check_entries.Given as goal
-
-abbrev pub invariant-loop-entry : goal.invariant-loop-entry
-invariant-loop-entry l = first_answer (unknown_name l.items) l.entries ≡ first_answer (unknown_name l.items) (drop l.entry-index l.entries)

@@ -1,5 +1,0 @@
-use Rattle.std.proofs.Common.{◌≡◌, map, take}
-use Rattle.oa_checks.proofs.checks.entry_names.Given as goal
-
-abbrev pub invariant-loop-entry : goal.invariant-loop-entry
-invariant-loop-entry l = map (λ n. n.now) l.names.items ≡ map (λ p. p.interface) (take l.entry-index l.entries)

@@ -1,6 +1,0 @@
-use Rattle.std.proofs.Common.{◌≡◌, ◌++◌, map, take}
-use Rattle.oa_checks.specs.Declarations.{of_method}
-use Rattle.oa_checks.proofs.declaration.add_methods.Given as goal
-
-abbrev pub invariant-loop-method : goal.invariant-loop-method
-invariant-loop-method l = l.all.items ≡ l.fn.all.items ++ map of_method (take l.method-index l.methods)

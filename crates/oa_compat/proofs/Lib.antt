@@ -1,0 +1,9 @@
+pub mod Losses
+pub mod SameKinds
+pub mod Searches
+pub mod TextReads
+pub mod Places
+pub mod Kept
+pub mod Entered
+pub mod KeptFits
+pub mod KeptMembers

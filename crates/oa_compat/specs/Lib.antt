@@ -1,0 +1,4 @@
+pub mod Keeps
+pub mod LibraryTexts
+pub mod Brings
+pub mod promise

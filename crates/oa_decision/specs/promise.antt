@@ -1,0 +1,21 @@
+-- The definitions that README's promises need.
+pub mod ArrayCells
+pub mod Cells
+pub mod Create
+pub mod Decided
+pub mod DescriptionFields
+pub mod GetElement
+pub mod Interfaces
+pub mod Invoke
+pub mod Limits
+pub mod Listing
+pub mod Lock
+pub mod LookUps
+pub mod PutElement
+pub mod Queries
+pub mod Redimension
+pub mod Refusals
+pub mod Release
+pub mod States
+pub mod TypeInfo
+pub mod Unlock

@@ -1,7 +1,0 @@
-use Rattle.std.proofs.Common.{◌≡◌, ◌++◌, take}
-use Rattle.std.specs.List.{flat_map}
-use Rattle.oa_description.specs.DescriptionFields.{entry_field}
-use Rattle.oa_description.proofs.description.put_entries.Given as goal
-
-abbrev pub invariant-entries : goal.invariant-entries
-invariant-entries l = l.out.items ≡ l.fn.out.items ++ flat_map entry_field (take l.entry-index l.entries)

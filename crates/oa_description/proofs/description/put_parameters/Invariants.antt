@@ -1,7 +1,0 @@
-use Rattle.std.proofs.Common.{◌≡◌, ◌++◌, take}
-use Rattle.std.specs.List.{flat_map}
-use Rattle.oa_description.specs.DescriptionFields.{parameter_field}
-use Rattle.oa_description.proofs.description.put_parameters.Given as goal
-
-abbrev pub invariant-parameters : goal.invariant-parameters
-invariant-parameters l = l.out.items ≡ l.fn.out.items ++ flat_map parameter_field (take l.parameter-index l.parameters)

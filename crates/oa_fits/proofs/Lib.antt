@@ -1,5 +1,0 @@
-pub mod Places
-pub mod Kept
-pub mod Entered
-pub mod KeptFits
-pub mod KeptMembers

@@ -1,0 +1,10 @@
+pub mod Formats
+pub mod Answers
+pub mod Numbers
+pub mod Values
+pub mod Arrays
+pub mod Variants
+pub mod Windows
+pub mod Elements
+pub mod Lengths
+pub mod promise

@@ -1,2 +1,0 @@
-pub mod Committed
-pub mod Batches

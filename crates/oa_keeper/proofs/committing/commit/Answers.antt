@@ -1,6 +1,0 @@
-use Rattle.std.proofs.Common.{ℕ, List, subst}
-use Rattle.oa_keeper.specs.Holding.{Commits}
-use Rattle.oa_keeper.proofs.committing.commit.Goals as goal
-
-pub returns-clause-commits : goal.returns-clause-commits
-returns-clause-commits g c = subst (λ (l : List ℕ). Commits l c.args.store.now c.commit_bytes.new.store) c.batch.view_is c.commit_bytes.ensures.commits

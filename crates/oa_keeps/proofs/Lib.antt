@@ -1,4 +1,0 @@
-pub mod Losses
-pub mod SameKinds
-pub mod Searches
-pub mod TextReads

@@ -1,6 +1,0 @@
-use Rattle.std.proofs.Common.{ap, sym, ◌∙◌}
-use Rattle.oa_checks.specs.Libraries.{marked}
-use Rattle.oa_keeps.proofs.laws.one_library.Goals as goal
-
-pub returns : goal.returns
-returns c = λ text a b p q. p.says ∙ ap marked (c.one_tree.ensures text p.tree q.tree p.stands q.stands) ∙ sym q.says

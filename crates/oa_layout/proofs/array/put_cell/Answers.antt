@@ -1,5 +1,0 @@
-use Rattle.oa_layout.proofs.Elements.{element_same}
-use Rattle.oa_layout.proofs.array.put_cell.Goals as goal
-
-pub returns : goal.returns
-returns c = rw (← element_same c.args.elem c.args.s.now c.requires) c.put_element.ensures

@@ -1,5 +1,0 @@
-use Rattle.oa_layout.proofs.Conditions.{scalar_is}
-use Rattle.oa_layout.proofs.laws.scalars_have_images.Goals as goal
-
-pub returns : goal.returns
-returns c = scalar_is

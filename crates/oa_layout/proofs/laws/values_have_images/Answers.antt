@@ -1,5 +1,0 @@
-use Rattle.oa_layout.proofs.Conditions.{value_is}
-use Rattle.oa_layout.proofs.laws.values_have_images.Goals as goal
-
-pub returns : goal.returns
-returns c = value_is

@@ -1,5 +1,0 @@
-pub mod Finding
-mod CellOrder
-mod InClient
-mod InClients
-pub mod Counted

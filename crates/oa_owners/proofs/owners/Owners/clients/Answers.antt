@@ -1,7 +1,0 @@
-use Rattle.std.proofs.Common.{sym, ap, ◌∙◌}
-use Rattle.oa_owners.proofs.InClients.{same_cells_of_all}
-use Rattle.oa_owners.specs.Kept.{all_cells}
-use Rattle.oa_owners.proofs.owners.Owners.clients.Goals as goal
-
-pub returns : goal.returns
-returns c = rw (sym c.self.view_is) (ap all_cells c.iter.ensures.rest ∙ same_cells_of_all c.self.inside.clients)

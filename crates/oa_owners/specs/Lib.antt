@@ -1,3 +1,0 @@
-pub mod ClientLocks
-pub mod Kept
-pub mod Counts

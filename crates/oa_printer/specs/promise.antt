@@ -1,0 +1,3 @@
+-- The definitions that README's promises need.
+pub mod Canonical
+pub mod Marked

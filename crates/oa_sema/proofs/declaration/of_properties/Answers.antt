@@ -1,0 +1,6 @@
+use Rattle.std.proofs.Common.{arith}
+use Rattle.std.proofs.lemmas.Grind.{common_steps}
+use Rattle.oa_sema.proofs.declaration.of_properties.Goals as goal
+
+pub loop-property-preserved : goal.loop-property-preserved
+loop-property-preserved c = grind (arith, common_steps)

@@ -1,5 +1,0 @@
-use Rattle.oa_share.proofs.Sessions.{as_a_session, each_is_read}
-use Rattle.oa_share.proofs.laws.each_is_a_session.Goals as goal
-
-pub returns : goal.returns
-returns c = record { reads = as_a_session; read = each_is_read }

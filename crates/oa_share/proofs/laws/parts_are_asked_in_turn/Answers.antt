@@ -1,5 +1,0 @@
-use Rattle.oa_share.proofs.Taking.{asks_then}
-use Rattle.oa_share.proofs.laws.parts_are_asked_in_turn.Goals as goal
-
-pub returns : goal.returns
-returns c = asks_then

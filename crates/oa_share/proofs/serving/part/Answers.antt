@@ -1,6 +1,0 @@
-use Rattle.std.proofs.Common.{rules}
-use Rattle.oa_share.proofs.Talks.{over_unknown}
-use Rattle.oa_share.proofs.serving.part.Goals as goal
-
-pub returns-then-reads_nothing-clause-progresses : goal.returns-then-reads_nothing-clause-progresses
-returns-then-reads_nothing-clause-progresses g c = over_unknown g.S.SharedResponder.alone g.S.SharedResponder.turn _ _ _ _ _ c.requires.unbroken.writer c.requires.unbroken.reader (search rules)

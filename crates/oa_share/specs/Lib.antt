@@ -1,8 +1,0 @@
-pub mod Marks
-pub mod Readers
-pub mod Frames
-pub mod Steps
-pub mod Shared
-pub mod Outgoing
-pub mod Answering
-pub mod Talking

@@ -1,5 +1,0 @@
-use Rattle.oa_stream.proofs.KeptBack.{back_delivers}
-use Rattle.oa_stream.proofs.behind.BehindSink.deliver.Goals as goal
-
-pub returns : goal.returns
-returns g c = back_delivers c.deliver.result _ _ _ _ _ c.in_ok-pass.ensures.empty c.in_ok-pass.ensures.puts c.deliver.ensures

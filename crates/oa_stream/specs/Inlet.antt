@@ -1,8 +1,0 @@
--- Readers of the standard library. (This project's choice.)
-use Rattle.std.specs.Prelude.{ℕ, false, List, Option}
-use Rattle.oa_stream.specs.declared.inlet.Inlet.{Inlet}
-use Rattle.oa_stream.specs.Source.{Input}
-
--- what the standard library states of the inner reader, which promises nothing
-abbrev pub inlet : {R : Type 0} → (R → Option (List ℕ)) → Inlet R → Input
-inlet remaining i = record { left = remaining i.reader; calls = i.calls; faulted = i.faulted; steady = false }

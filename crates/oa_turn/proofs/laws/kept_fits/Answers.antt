@@ -1,5 +1,0 @@
-use Rattle.oa_keeps.proofs.Losses.{all_kept, keeps_all}
-use Rattle.oa_turn.proofs.laws.kept_fits.Goals as goal
-
-pub returns-clause-keeps : goal.returns-clause-keeps
-returns-clause-keeps c new old checked = (keeps_all new old, all_kept new old checked)

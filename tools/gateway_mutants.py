@@ -87,7 +87,7 @@ EDITS = (
     ("left out", r"^(\s*)(?!return|static|break|continue|goto|else|case|char|int|size_t|bool|double|struct|uint\w+|ssize_t|Client|unsigned|const|long|for|while|if|do)"
      r"([\w*(&][^{}]*[)\w\]];)\s*(?:/\*.*)?$", lambda it: f"{it[1]};"),
     ("condition's statement left out", r"^(\s*(?:else )?if \(.*\)) ([^{}();=]+(?:\([^{}]*\)|[-+]?=[^;]+));$", lambda it: f"{it[1]};"),
-    ("never", r"^(\s*(?:else )?if) \((.*)\)(?= [\w*{(])", lambda it: f"{it[1]} (0 && ({it[2]}))"),
+    ("never", r"^(\s*(?:else )?if) \((.*)\)(?= [\w*{(]|$)", lambda it: f"{it[1]} (0 && ({it[2]}))"),
 )  # fmt: skip
 
 

@@ -21,7 +21,9 @@ HRESULT check_arguments(const DISPPARAMS *given)
         return E_INVALIDARG;
     if (given->cArgs > MAX_ARGUMENTS || given->cNamedArgs > MAX_ARGUMENTS)
         return DISP_E_BADPARAMCOUNT;
-    return (given->cArgs && !given->rgvarg) || (given->cNamedArgs && !given->rgdispidNamedArgs) ? E_INVALIDARG : S_OK;
+    return (given->cArgs && !given->rgvarg) || (given->cNamedArgs && !given->rgdispidNamedArgs)
+               ? E_INVALIDARG
+               : S_OK;
 }
 
 static BOOL is_put(const Call *call)
@@ -35,7 +37,8 @@ static BOOL by_place(const Call *call)
     const DISPPARAMS *given = call->given;
 
     if (is_put(call))
-        return given->cNamedArgs == 1 && given->rgdispidNamedArgs[0] == DISPID_PROPERTYPUT && given->cArgs;
+        return given->cNamedArgs == 1 && given->rgdispidNamedArgs[0] == DISPID_PROPERTYPUT &&
+               given->cArgs;
     return !given->cNamedArgs;
 }
 
@@ -45,15 +48,17 @@ UINT32 parameter_of(const Call *call, UINT32 place)
 
     if (place >= given->cNamedArgs)
         return given->cArgs - 1 - place; /* by place: the last one comes first */
-    return given->rgdispidNamedArgs[place] == DISPID_PROPERTYPUT ? NO_ARGUMENT
-                                                                 : (UINT32)given->rgdispidNamedArgs[place];
+    return given->rgdispidNamedArgs[place] == DISPID_PROPERTYPUT
+               ? NO_ARGUMENT
+               : (UINT32)given->rgdispidNamedArgs[place];
 }
 
 VARTYPE type_of_parameter(const Call *call, UINT32 parameter)
 {
     Parameter found;
 
-    if (!call->has_member || parameter >= call->member.parameters || !parameter_at(&call->member, parameter, &found))
+    if (!call->has_member || parameter >= call->member.parameters ||
+        !parameter_at(&call->member, parameter, &found))
         return VT_EMPTY;
     return found.type;
 }
@@ -76,14 +81,16 @@ HRESULT write_argument(Call *call, Writer *to, UINT32 place, VARTYPE declared)
 
     if (call->target->for_scripts && declared != VT_EMPTY) {
         result = write_variant_as(to, value, declared, call->target->for_scripts);
-        is_misfit = result == DISP_E_BADVARTYPE || result == DISP_E_TYPEMISMATCH || result == DISP_E_OVERFLOW;
+        is_misfit = result == DISP_E_BADVARTYPE || result == DISP_E_TYPEMISMATCH ||
+                    result == DISP_E_OVERFLOW;
     }
     if (is_misfit && call->misfit == S_OK) {
         call->misfit = result;
         call->misfit_at = place;
     }
     if (is_misfit || result == S_FALSE)
-        result = write_variant(to, value); /* unchanged, so that another error is reported first */
+        /* unchanged, so that another error is reported first */
+        result = write_variant(to, value);
     if (FAILED(result) && result != E_OUTOFMEMORY)
         call->argument = place;
     return result;
@@ -106,7 +113,8 @@ Writer *begin_call(const Call *call, enum opcode opcode, UINT32 count, UINT32 na
     return to;
 }
 
-/* Sends the request, and returns to the caller: a get's value is read into the caller's variable. */
+/* Sends the request, and returns to the caller: a get's value is read into the caller's
+ * variable. */
 static HRESULT finish_call(Call *call)
 {
     Connection *connection = call->target->connection;
@@ -118,7 +126,8 @@ static HRESULT finish_call(Call *call)
     if (result != S_OK || is_put(call))
         return result;
     from = reply_fields(connection);
-    result = read_variant(&from, call->target->for_scripts, call->result ? call->result : &unwanted);
+    result = read_variant(&from, call->target->for_scripts,
+                          call->result ? call->result : &unwanted);
     if (SUCCEEDED(result) && !call->result)
         VariantClear(&unwanted);
     return result;
@@ -163,13 +172,14 @@ static HRESULT index_of(const VARIANT *value, BOOL for_scripts, INT32 *index)
     case VT_BSTR:
     case VT_CY:
     case VT_DECIMAL:
-    case VT_ERROR: return DISP_E_TYPEMISMATCH;
+    case VT_ERROR:
+        return DISP_E_TYPEMISMATCH;
     }
     return DISP_E_BADVARTYPE;
 }
 
-/* An element of a property's array: positional arguments after the property's parameters are indices. rgvarg has the last of them first, as
- * rgsabound and the wire have their bounds. */
+/* An element of a property's array: positional arguments after the property's parameters are
+ * indices. rgvarg has the last of them first, as rgsabound and the wire have their bounds. */
 static HRESULT invoke_element(Call *call)
 {
     const DISPPARAMS *given = call->given;
@@ -193,11 +203,13 @@ static HRESULT invoke_element(Call *call)
         write_32(to, (UINT32)index);
     }
     write_pad(to, 8);
-    if (is_put(call) && FAILED(result = write_argument(call, to, 0, call->member.type & (VARTYPE)~VT_ARRAY)))
+    if (is_put(call) &&
+        FAILED(result = write_argument(call, to, 0, call->member.type & (VARTYPE)~VT_ARRAY)))
         return result;
     result = finish_call(call);
     if (call->argument < parameters)
-        call->argument += first + indices; /* the server has seen the parameters' arguments alone */
+        /* the server has seen the parameters' arguments alone */
+        call->argument += first + indices;
     else if (is_put(call) && (result == DISP_E_BADVARTYPE || result == DISP_E_OVERFLOW))
         call->argument = 0; /* a cell's new value has no index in its reply */
     return result;
@@ -230,13 +242,16 @@ static HRESULT find_called(Call *call)
     if (FAILED(result))
         return result;
     type = find_interface(library, &target->class, &target->iid);
-    call->has_member = type && find_member(type, call->id, &call->member) && call->member.type != VT_VOID;
+    call->has_member = type && find_member(type, call->id, &call->member) &&
+                       call->member.type != VT_VOID;
     return S_OK;
 }
 
 HRESULT find_types(Call *call)
 {
-    return call->target->for_scripts && has_misfits(call->given, call->target->for_scripts) ? find_called(call) : S_OK;
+    return call->target->for_scripts && has_misfits(call->given, call->target->for_scripts)
+               ? find_called(call)
+               : S_OK;
 }
 
 /* The library's types are read only if they make a difference. */
@@ -246,7 +261,8 @@ HRESULT perform_call(Call *call)
     HRESULT result;
 
     if (call->flags & DISPATCH_PROPERTYPUTREF)
-        call->flags = (WORD)((call->flags & ~DISPATCH_PROPERTYPUTREF) | DISPATCH_PROPERTYPUT); /* of a value, a put */
+        /* of a value, a put */
+        call->flags = (WORD)((call->flags & ~DISPATCH_PROPERTYPUTREF) | DISPATCH_PROPERTYPUT);
     arguments = call->given->cArgs - (is_put(call) && by_place(call) ? 1 : 0);
     if (FAILED(result = arguments && by_place(call) ? find_called(call) : find_types(call)))
         return result;

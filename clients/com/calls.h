@@ -31,14 +31,16 @@ typedef struct Call {
     /* the member, if it was looked up and exists */
     BOOL has_member;
     Member member;
-    /* an argument that could not be written as what is declared, so that it went as it is, and why; S_OK for none */
+    /* an argument that could not be written as what is declared, so that it went as it is, and why;
+     * S_OK for none */
     HRESULT misfit;
     UINT32 misfit_at;
 } Call;
 
 Call call_of(const Target *target, DISPID id, const DISPPARAMS *given);
 
-/* Whether the arguments are valid: pointers if there are counts, and at most as many as a request has. */
+/* Whether the arguments are valid: pointers if there are counts, and at most as many as a request
+ * has. */
 HRESULT check_arguments(const DISPPARAMS *given);
 
 /* Performs a call by its request. */
@@ -48,7 +50,8 @@ HRESULT perform_call(Call *call);
 Writer *begin_call(const Call *call, enum opcode opcode, UINT32 count, UINT32 named);
 /* Writes the argument at a place of rgvarg; VT_EMPTY if no declared type is known. */
 HRESULT write_argument(Call *call, Writer *to, UINT32 place, VARTYPE declared);
-/* Looks the member up if its types matter for the arguments. Returns the declared type of a parameter, VT_EMPTY if it is not known. */
+/* Looks the member up if its types matter for the arguments. Returns the declared type of a
+ * parameter, VT_EMPTY if it is not known. */
 HRESULT find_types(Call *call);
 VARTYPE type_of_parameter(const Call *call, UINT32 parameter);
 /* The place of the parameter of an argument in rgvarg, or NO_ARGUMENT for a put's new value. */

@@ -82,7 +82,8 @@ static HRESULT create_object(const Class *class, Connection *connection, REFIID 
     return result == S_OK ? new_object(&target, iid, made) : result;
 }
 
-static HRESULT STDMETHODCALLTYPE class_create(IClassFactory *self, IUnknown *outer, REFIID iid, void **made)
+static HRESULT STDMETHODCALLTYPE class_create(IClassFactory *self, IUnknown *outer, REFIID iid,
+                                              void **made)
 {
     const Class *class = &((ClassObject *)self)->class;
     Connection *connection;
@@ -140,8 +141,8 @@ static BOOL number_in(const WCHAR *name, UINT32 *number)
     return !*at && sum <= MAXDWORD;
 }
 
-static HRESULT STDMETHODCALLTYPE parser_parse(IParseDisplayName *self, IBindCtx *context, LPOLESTR name, ULONG *eaten,
-                                              IMoniker **made)
+static HRESULT STDMETHODCALLTYPE parser_parse(IParseDisplayName *self, IBindCtx *context,
+                                              LPOLESTR name, ULONG *eaten, IMoniker **made)
 {
     const Class *class = &of_parser(self)->class;
     Connection *connection;
@@ -169,8 +170,10 @@ static HRESULT STDMETHODCALLTYPE parser_parse(IParseDisplayName *self, IBindCtx 
     return result;
 }
 
-static const IClassFactoryVtbl CLASS_CALLS = {class_query, class_keep, class_release, class_create, class_lock};
-static const IParseDisplayNameVtbl PARSER_CALLS = {parser_query, parser_keep, parser_release, parser_parse};
+static const IClassFactoryVtbl CLASS_CALLS = {class_query, class_keep, class_release, class_create,
+                                              class_lock};
+static const IParseDisplayNameVtbl PARSER_CALLS = {parser_query, parser_keep, parser_release,
+                                                   parser_parse};
 
 HRESULT new_class_object(const Class *class, REFIID iid, void **made)
 {

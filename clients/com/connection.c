@@ -6,10 +6,10 @@
 #define LENGTH 4u            /* the bytes of a record before its body */
 #define HEAD 16u             /* those of a reply before its fields */
 #define FIRST_ROOM 4096u     /* for replies: most of them come whole by the first call */
-#define RECENT 20u           /* milliseconds after a reply in which the server is assumed to be connected */
+#define RECENT 20u           /* milliseconds after a reply: the server is still connected */
 #define MAX_REPLY 0x1000000u /* three times what the largest value takes */
-#define MAX_LIST 0x40000000u /* an object has as many bytes there as in the store's bank, which has at most these */
-#define REPLY_STEP 0x40000u  /* as much room is made at once for a reply whose bytes have not come */
+#define MAX_LIST 0x40000000u /* an object has as many bytes as in a bank of a store */
+#define REPLY_STEP 0x40000u  /* so much room is made at once for bytes to come */
 
 static CRITICAL_SECTION all_lock; /* of the list, and of all counts of references */
 static Connection *all_connections;
@@ -52,8 +52,9 @@ static VOID CALLBACK on_timer(PTP_CALLBACK_INSTANCE instance, PVOID context, PTP
 
     (void)instance;
     (void)timer;
-    EnterCriticalSection(&connection->lock);    /* after a call that is in progress */
-    if (connection->socket != INVALID_SOCKET) { /* else nothing sets the timer again but the next dial */
+    EnterCriticalSection(&connection->lock); /* after a call that is in progress */
+    /* else nothing sets the timer again but the next dial */
+    if (connection->socket != INVALID_SOCKET) {
         quiet = GetTickCount64() - connection->last;
         if (connection->locks)
             set_timer(connection, connection->settings.idle);
@@ -89,7 +90,8 @@ static Connection *new_connection(const Settings *settings)
     connection->references = 1;
     connection->generation = 1;
     connection->socket = INVALID_SOCKET;
-    if (!(connection->timer = CreateThreadpoolTimer(on_timer, connection, NULL)) || WSAStartup(MAKEWORD(2, 2), &told)) {
+    if (!(connection->timer = CreateThreadpoolTimer(on_timer, connection, NULL)) ||
+        WSAStartup(MAKEWORD(2, 2), &told)) {
         if (connection->timer)
             CloseThreadpoolTimer(connection->timer);
         free_connection(connection);
@@ -105,7 +107,8 @@ Connection *connection_to(const Settings *settings)
 
     EnterCriticalSection(&all_lock);
     for (found = all_connections; found; found = found->next)
-        if (!lstrcmpW(found->settings.host, settings->host) && !lstrcmpW(found->settings.port, settings->port))
+        if (!lstrcmpW(found->settings.host, settings->host) &&
+            !lstrcmpW(found->settings.port, settings->port))
             break;
     if (found) {
         found->references++;
@@ -220,7 +223,8 @@ void free_addresses(Addresses *addresses)
 
 SOCKET socket_for(const ADDRINFOW *address)
 {
-    /* not for the processes that the host starts: one that goes on would keep the next client waiting */
+    /* not for the processes that the host starts: one that goes on would keep the next client
+     * waiting */
     return WSASocketW(address->ai_family, address->ai_socktype, address->ai_protocol, NULL, 0,
                       WSA_FLAG_OVERLAPPED | WSA_FLAG_NO_HANDLE_INHERIT);
 }
@@ -241,7 +245,8 @@ static HRESULT dial(Connection *connection)
     const ADDRINFOW *address;
     Addresses addresses;
 
-    if (!find_addresses(&connection->settings, connection->settings.port, &addresses, &connection->cause))
+    if (!find_addresses(&connection->settings, connection->settings.port, &addresses,
+                        &connection->cause))
         return OAUT_E_NOT_REACHED;
     while (made == INVALID_SOCKET && (address = next_address(&addresses, &connection->reached))) {
         if ((made = socket_for(address)) == INVALID_SOCKET) {
@@ -275,7 +280,8 @@ static HRESULT dial_again(Connection *connection)
 
     if (FAILED(result))
         return result;
-    memset(&connection->request, 0, sizeof connection->request); /* the request that dials waits */
+    /* the request that dials waits */
+    memset(&connection->request, 0, sizeof connection->request);
     result = compare_library(connection);
     writer_free(&connection->request);
     connection->request = request;
@@ -297,7 +303,9 @@ BOOL has_gone(Connection *connection)
     fd_set readable;
 
     if (GetTickCount64() - connection->last < RECENT)
-        return FALSE; /* else each of many puts would check; if the server is gone after all, the put fails as lost */
+        /* else each of many puts would check; if the server is gone after all, the put fails as
+         * lost */
+        return FALSE;
     FD_ZERO(&readable);
     FD_SET(connection->socket, &readable);
     return select((int)connection->socket + 1, &readable, NULL, NULL, &now) != 0;
@@ -315,7 +323,8 @@ static HRESULT send_all(Connection *connection)
     size_t sent = 0;
 
     while (sent < request->length) {
-        int count = send(connection->socket, (const char *)request->bytes + sent, (int)(request->length - sent), 0);
+        int count = send(connection->socket, (const char *)request->bytes + sent,
+                         (int)(request->length - sent), 0);
 
         if (count <= 0)
             return socket_fault(connection);
@@ -324,7 +333,8 @@ static HRESULT send_all(Connection *connection)
     return S_OK;
 }
 
-/* Room for a record of a length. It is made as the bytes come, so that a length that lies takes no memory. */
+/* Room for a record of a length. It is made as the bytes come, so that a length that lies takes no
+ * memory. */
 static HRESULT make_room(Connection *connection, UINT32 length)
 {
     UINT32 room = 2 * connection->received + REPLY_STEP; /* at most some of 2 * MAX_LIST */
@@ -341,8 +351,10 @@ static HRESULT make_room(Connection *connection, UINT32 length)
     return S_OK;
 }
 
-/* Receives some bytes of a record, and counts them; `until` is the deadline of the whole reply, 0 for none. */
-static HRESULT receive_some(Connection *connection, char *to, UINT32 room, UINT32 length, ULONGLONG until)
+/* Receives some bytes of a record, and counts them; `until` is the deadline of the whole reply, 0
+ * for none. */
+static HRESULT receive_some(Connection *connection, char *to, UINT32 room, UINT32 length,
+                            ULONGLONG until)
 {
     int got = recv(connection->socket, to, (int)room, 0);
 
@@ -368,7 +380,8 @@ static HRESULT receive(Connection *connection, UINT32 length, ULONGLONG until)
     return result;
 }
 
-/* Receives the rest of a record that there is no memory for, so that the connection and its locks stay. S_FALSE if it works. */
+/* Receives the rest of a record that there is no memory for, so that the connection and its locks
+ * stay. S_FALSE if it works. */
 static HRESULT pass_over(Connection *connection, UINT32 length, ULONGLONG until)
 {
     HRESULT result = S_OK;
@@ -377,7 +390,8 @@ static HRESULT pass_over(Connection *connection, UINT32 length, ULONGLONG until)
     while (connection->received < length && SUCCEEDED(result)) {
         UINT32 left = length - connection->received;
 
-        result = receive_some(connection, bytes, left < FIRST_ROOM ? left : FIRST_ROOM, length, until);
+        result = receive_some(connection, bytes, left < FIRST_ROOM ? left : FIRST_ROOM, length,
+                              until);
     }
     return SUCCEEDED(result) ? S_FALSE : result;
 }
@@ -408,7 +422,8 @@ Writer *begin_request_of(Connection *connection, enum opcode opcode, UINT32 gene
     return to;
 }
 
-/* One try. OAUT_E_NOT_REACHED if nothing of the request was sent, S_FALSE if there is no memory for the reply. */
+/* One try. OAUT_E_NOT_REACHED if nothing of the request was sent, S_FALSE if there is no memory for
+ * the reply. */
 static HRESULT try_exchange(Connection *connection, enum way way)
 {
     DWORD timeout = connection->settings.timeout;
@@ -417,19 +432,22 @@ static HRESULT try_exchange(Connection *connection, enum way way)
     HRESULT result;
 
     if (is_connected(connection) && way != AGAIN && has_gone(connection))
-        hang_up(connection); /* a server that is gone is noticed before a put is sent, not after it */
+        /* a server that is gone is noticed before a put is sent, not after it */
+        hang_up(connection);
     if (!is_connected(connection) && connection->lost_locks) {
         connection->cause = 0;
         return OAUT_E_LOST; /* the caller gets one error that its locks are gone */
     }
-    if (!is_connected(connection) && FAILED(result = way == HERE ? OAUT_E_LOST : dial_again(connection)))
+    if (!is_connected(connection) &&
+        FAILED(result = way == HERE ? OAUT_E_LOST : dial_again(connection)))
         return result;
     if (connection->wanted && connection->wanted != connection->generation)
         return OAUT_E_OTHER_LIBRARY;
     until = timeout ? GetTickCount64() + timeout : 0;
     connection->received = 0;
     connection->cause = 0;
-    if (FAILED(result = send_all(connection)) || FAILED(result = receive(connection, LENGTH, until)))
+    if (FAILED(result = send_all(connection)) ||
+        FAILED(result = receive(connection, LENGTH, until)))
         return result;
     memcpy(&length, connection->reply, sizeof length);
     if (length < HEAD || length > most_of_reply(&connection->request))

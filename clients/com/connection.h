@@ -1,6 +1,8 @@
-/* Connections to servers: requests and their replies over a socket, and a server's type information. A process has one connection to a server,
- * for all of its objects. It connects with the first request, and hangs up if nothing was asked for a while, so that the server's next client
- * has its turn: objects are numbers in a store, and the next request connects again. A call holds the connection's lock throughout. */
+/* Connections to servers: requests and their replies over a socket, and a server's type
+ * information. A process has one connection to a server, for all of its objects. It connects with
+ * the first request, and hangs up if nothing was asked for a while, so that the server's next
+ * client has its turn: objects are numbers in a store, and the next request connects again. A call
+ * holds the connection's lock throughout. */
 #ifndef OAUT_CONNECTION_H
 #define OAUT_CONNECTION_H
 
@@ -11,9 +13,11 @@
 
 /* The bridge's own codes, besides those of a server's replies. */
 #define OAUT_E_NOT_REACHED ((HRESULT)0x800706BA) /* RPC_S_SERVER_UNAVAILABLE: nothing was sent */
-#define OAUT_E_LOST ((HRESULT)0x80010006)        /* RPC_E_CONNECTION_TERMINATED: sent; done or not, wholly */
-#define OAUT_E_LATE ((HRESULT)0x8001011F)        /* RPC_E_TIMEOUT: the same, no reply in time */
-/* RPC_S_UNKNOWN_IF: another library is there than the one that the object was made with; nothing was sent */
+#define OAUT_E_LOST \
+    ((HRESULT)0x80010006) /* RPC_E_CONNECTION_TERMINATED: sent; done or not, wholly */
+#define OAUT_E_LATE ((HRESULT)0x8001011F) /* RPC_E_TIMEOUT: the same, no reply in time */
+/* RPC_S_UNKNOWN_IF: another library is there than the one that the object was made with; nothing
+ * was sent */
 #define OAUT_E_OTHER_LIBRARY ((HRESULT)0x800706B5)
 
 enum opcode {
@@ -36,7 +40,7 @@ typedef struct Settings {
     WCHAR watch[16];              /* the port of the gateway's --watch there, or empty */
     WCHAR type_library[MAX_PATH]; /* the file of its types, or empty */
     DWORD timeout;                /* milliseconds for a reply; 0 for ever */
-    DWORD idle;                   /* milliseconds after the last reply until it hangs up; 0: never */
+    DWORD idle; /* milliseconds after the last reply until it hangs up; 0: never */
 } Settings;
 
 struct Library;
@@ -47,7 +51,8 @@ typedef struct Address {
     int length;
 } Address;
 
-/* The addresses of a host's port that are left to be tried: first the one that was reached last, then the others in the resolver's order. */
+/* The addresses of a host's port that are left to be tried: first the one that was reached last,
+ * then the others in the resolver's order. */
 typedef struct Addresses {
     ADDRINFOW *list, *next;
     BOOL are_others;
@@ -75,7 +80,8 @@ typedef struct Connection {
     PTP_TIMER timer;
     SOCKET socket; /* INVALID_SOCKET if it is hung up */
     ULONGLONG last;
-    LONG locks;      /* of arrays: they end with the connection, so it is not idle while there are some */
+    /* of arrays: they end with the connection, so it is not idle while there are some */
+    LONG locks;
     BOOL lost_locks; /* some have ended so, and no caller knows yet */
     UINT32 tag;
     Writer request;
@@ -83,18 +89,23 @@ typedef struct Connection {
     UINT32 reply_length, reply_room; /* of the body, of all that is received */
     UINT32 received;
     UINT32 argument; /* the last reply's index of an argument, or NO_ARGUMENT */
-    int cause;       /* why there was none: Winsock's error, or 0 if the server ended the connection */
+    /* why there was none: Winsock's error, or 0 if the server ended the connection */
+    int cause;
     Address reached; /* the one that was connected last */
     Listing listing;
-    struct Library *library;        /* what the server has said of its library (library.h) */
-    struct Library *before;         /* what an earlier connection's has said, until this one's is compared with it */
-    UINT32 generation;              /* from 1 on: the next one begins if another library is there than before */
-    UINT32 wanted;                  /* the generation of the object that a request is about, 0 if it is about none */
+    struct Library *library; /* what the server has said of its library (library.h) */
+    /* what an earlier connection's has said, until this one's is compared with it */
+    struct Library *before;
+    /* from 1 on: the next one begins if another library is there than before */
+    UINT32 generation;
+    /* the generation of the object that a request is about, 0 if it is about none */
+    UINT32 wanted;
     struct deferred_name *deferred; /* names that nobody could be asked for (library.h) */
     UINT32 deferred_count;
 } Connection;
 
-/* Finds the addresses of a port of the server's host; FALSE if there are none, with the cause as Connection has it. */
+/* Finds the addresses of a port of the server's host; FALSE if there are none, with the cause as
+ * Connection has it. */
 BOOL find_addresses(const Settings *settings, const WCHAR *port, Addresses *found, int *cause);
 /* The next one to try, NULL after the last. */
 const ADDRINFOW *next_address(Addresses *from, const Address *reached);
@@ -107,39 +118,44 @@ void keep_address(Address *reached, const ADDRINFOW *address);
 /* Before all else, once a process. */
 void connections_begin(void);
 
-/* The process's connection to a server, made if there is none; the caller has a reference. NULL if out of memory. Settings other than host and
- * port apply only when it is made. */
+/* The process's connection to a server, made if there is none; the caller has a reference. NULL if
+ * out of memory. Settings other than host and port apply only when it is made. */
 Connection *connection_to(const Settings *settings);
 void connection_keep(Connection *connection);
 /* Gives a reference back; the last one hangs up. Not while its lock is held. */
 void connection_release(Connection *connection);
 
 void connection_enter(Connection *connection);
-/* Leaves, and returns the code of what was done in between; if bytes came that are no reply, it has hung up. */
+/* Leaves, and returns the code of what was done in between; if bytes came that are no reply, it has
+ * hung up. */
 HRESULT connection_leave(Connection *connection, HRESULT code);
 
 /* All below want the connection's lock held. */
 
 /* Over which connection a request goes. */
 enum way {
-    ONCE, /* over the existing connection; over a new one if there is none, or its server had gone before the request was sent */
+    /* over the existing connection; over a new one if there is none, or its server had gone before
+       the request was sent */
+    ONCE,
     AGAIN, /* the same, and over a new one if the connection broke: the request is idempotent */
     HERE   /* over the one that is there: what was asked before it has to be of the same server */
 };
 
-/* Begins the request; the caller writes its fields to what is given. One about an object goes only to a server that has
-   the library that the object was made with: `generation` is the connection's at that time, or 0 for any. */
+/* Begins the request; the caller writes its fields to what is given. One about an object goes only
+   to a server that has the library that the object was made with: `generation` is the connection's
+   at that time, or 0 for any. */
 Writer *begin_request(Connection *connection, enum opcode opcode);
 Writer *begin_request_of(Connection *connection, enum opcode opcode, UINT32 generation);
-/* Sends what was begun, and has the reply. S_OK, a code of the server, or one of the bridge's, and then it has hung up; but it stays
-   connected after E_OUTOFMEMORY for a long reply, whose bytes it has read past. */
+/* Sends what was begun, and has the reply. S_OK, a code of the server, or one of the bridge's, and
+   then it has hung up; but it stays connected after E_OUTOFMEMORY for a long reply, whose bytes it
+   has read past. */
 HRESULT exchange(Connection *connection, enum way way);
 /* The fields of the last reply. */
 Reader reply_fields(Connection *connection);
 void hang_up(Connection *connection);
 
-/* Whether there is a connection; whether its other end has closed, or has sent what nobody asked for, so that nothing
-   that is sent has a reply. */
+/* Whether there is a connection; whether its other end has closed, or has sent what nobody asked
+   for, so that nothing that is sent has a reply. */
 BOOL is_connected(const Connection *connection);
 BOOL has_gone(Connection *connection);
 

@@ -23,8 +23,8 @@ typedef struct Hub {
 
 static const IDispatchVtbl HUB_CALLS;
 
-static HRESULT new_collection(Connection *connection, REFGUID class, REFGUID coclass, int for_scripts, REFIID iid,
-                              void **made)
+static HRESULT new_collection(Connection *connection, REFGUID class, REFGUID coclass,
+                              int for_scripts, REFIID iid, void **made)
 {
     Hub *hub = calloc(1, sizeof *hub);
     HRESULT result;
@@ -79,7 +79,8 @@ static HRESULT STDMETHODCALLTYPE hub_query(IDispatch *self, REFIID iid, void **f
     GUID own = part_of_hub(&hub->class, is_collection(hub) ? PART_COLLECTION : PART_HUB);
 
     *found = NULL;
-    if (!IsEqualGUID(iid, &IID_IUnknown) && !IsEqualGUID(iid, &IID_IDispatch) && !IsEqualGUID(iid, &own))
+    if (!IsEqualGUID(iid, &IID_IUnknown) && !IsEqualGUID(iid, &IID_IDispatch) &&
+        !IsEqualGUID(iid, &own))
         return E_NOINTERFACE;
     InterlockedIncrement(&hub->references);
     *found = self;
@@ -112,7 +113,8 @@ static HRESULT STDMETHODCALLTYPE hub_type_count(IDispatch *self, UINT *count)
     return S_OK;
 }
 
-static HRESULT STDMETHODCALLTYPE hub_type(IDispatch *self, UINT index, LCID locale, ITypeInfo **found)
+static HRESULT STDMETHODCALLTYPE hub_type(IDispatch *self, UINT index, LCID locale,
+                                          ITypeInfo **found)
 {
     const Hub *hub = (Hub *)self;
 
@@ -143,12 +145,27 @@ enum hub_member {
 };
 
 static const HubMember MEMBERS[] = {
-    [HUB_ITEM] = {DISPID_VALUE, L"Item", 1, 1, TRUE, INVOKE_PROPERTYGET, VT_DISPATCH, {{L"place", VT_VARIANT}}},
-    [HUB_NEW_ENUM] = {DISPID_NEWENUM, L"_NewEnum", 0, 0, TRUE, INVOKE_PROPERTYGET, VT_UNKNOWN, {{NULL, VT_EMPTY}}},
+    [HUB_ITEM] = {DISPID_VALUE,
+                  L"Item",
+                  1,
+                  1,
+                  TRUE,
+                  INVOKE_PROPERTYGET,
+                  VT_DISPATCH,
+                  {{L"place", VT_VARIANT}}},
+    [HUB_NEW_ENUM] = {DISPID_NEWENUM,
+                      L"_NewEnum",
+                      0,
+                      0,
+                      TRUE,
+                      INVOKE_PROPERTYGET,
+                      VT_UNKNOWN,
+                      {{NULL, VT_EMPTY}}},
     [HUB_OBJECT] = {1, L"Object", 1, 1, FALSE, INVOKE_FUNC, VT_DISPATCH, {{L"number", VT_VARIANT}}},
     [HUB_COUNT] = {2, L"Count", 0, 0, TRUE, INVOKE_PROPERTYGET, VT_VARIANT, {{NULL, VT_EMPTY}}},
     [HUB_NUMBERS] = {3, L"Numbers", 0, 0, TRUE, INVOKE_PROPERTYGET, VT_VARIANT, {{NULL, VT_EMPTY}}},
-    [HUB_NUMBER_OF] = {4, L"NumberOf", 1, 1, FALSE, INVOKE_FUNC, VT_VARIANT, {{L"object", VT_DISPATCH}}},
+    [HUB_NUMBER_OF] =
+        {4, L"NumberOf", 1, 1, FALSE, INVOKE_FUNC, VT_VARIANT, {{L"object", VT_DISPATCH}}},
     [HUB_RELEASE] = {5, L"Release", 1, 1, FALSE, INVOKE_FUNC, VT_VOID, {{L"object", VT_DISPATCH}}},
     [HUB_REDIM] = {6,
                    L"Redim",
@@ -157,9 +174,18 @@ static const HubMember MEMBERS[] = {
                    FALSE,
                    INVOKE_FUNC,
                    VT_VOID,
-                   {{L"object", VT_DISPATCH}, {L"name", VT_BSTR}, {L"count", VT_VARIANT}, {L"lowest", VT_VARIANT}}},
-    [HUB_LOCK] =
-        {7, L"Lock", 2, MAX_ARGUMENTS, FALSE, INVOKE_FUNC, VT_VARIANT, {{L"object", VT_DISPATCH}, {L"name", VT_BSTR}}},
+                   {{L"object", VT_DISPATCH},
+                    {L"name", VT_BSTR},
+                    {L"count", VT_VARIANT},
+                    {L"lowest", VT_VARIANT}}},
+    [HUB_LOCK] = {7,
+                  L"Lock",
+                  2,
+                  MAX_ARGUMENTS,
+                  FALSE,
+                  INVOKE_FUNC,
+                  VT_VARIANT,
+                  {{L"object", VT_DISPATCH}, {L"name", VT_BSTR}}},
     [HUB_UNLOCK] = {8,
                     L"Unlock",
                     2,
@@ -169,7 +195,8 @@ static const HubMember MEMBERS[] = {
                     VT_VARIANT,
                     {{L"object", VT_DISPATCH}, {L"name", VT_BSTR}}},
     [HUB_CLASS_OF] = {9, L"ClassOf", 1, 1, FALSE, INVOKE_FUNC, VT_BSTR, {{L"object", VT_DISPATCH}}},
-    [HUB_OBJECTS] = {10, L"Objects", 1, 1, FALSE, INVOKE_FUNC, VT_USERDEFINED, {{L"coclass", VT_BSTR}}},
+    [HUB_OBJECTS] =
+        {10, L"Objects", 1, 1, FALSE, INVOKE_FUNC, VT_USERDEFINED, {{L"coclass", VT_BSTR}}},
     [HUB_INTERFACE_OF] = {11,
                           L"InterfaceOf",
                           2,
@@ -179,9 +206,22 @@ static const HubMember MEMBERS[] = {
                           VT_DISPATCH,
                           {{L"object", VT_DISPATCH}, {L"interface", VT_BSTR}}},
     [HUB_REMOVE] = {12, L"Remove", 1, 1, FALSE, INVOKE_FUNC, VT_VOID, {{L"object", VT_DISPATCH}}},
-    [HUB_WAIT_FOR_CHANGE] =
-        {13, L"WaitForChange", 1, 1, TRUE, INVOKE_FUNC, VT_VARIANT, {{L"milliseconds", VT_VARIANT}}},
-    [HUB_KEYS] = {14, L"Keys", 2, 2, FALSE, INVOKE_FUNC, VT_VARIANT, {{L"object", VT_DISPATCH}, {L"name", VT_BSTR}}},
+    [HUB_WAIT_FOR_CHANGE] = {13,
+                             L"WaitForChange",
+                             1,
+                             1,
+                             TRUE,
+                             INVOKE_FUNC,
+                             VT_VARIANT,
+                             {{L"milliseconds", VT_VARIANT}}},
+    [HUB_KEYS] = {14,
+                  L"Keys",
+                  2,
+                  2,
+                  FALSE,
+                  INVOKE_FUNC,
+                  VT_VARIANT,
+                  {{L"object", VT_DISPATCH}, {L"name", VT_BSTR}}},
 };
 
 #define MEMBER_COUNT ((int)ARRAYSIZE(MEMBERS))
@@ -197,8 +237,9 @@ typedef struct HubCall {
     enum hub_member member;
     const DISPPARAMS *given;
     VARIANT told;
-    UINT32 argument;    /* the place of the wrong one in rgvarg, or NO_ARGUMENT */
-    const WCHAR *watch; /* of what the gateway's --watch is asked: its port, and why that was not reached */
+    UINT32 argument; /* the place of the wrong one in rgvarg, or NO_ARGUMENT */
+    /* of what the gateway's --watch is asked: its port, and why that was not reached */
+    const WCHAR *watch;
     int cause;
 } HubCall;
 
@@ -208,13 +249,14 @@ static int member_with(const Hub *hub, const WCHAR *name, DISPID id)
     int i;
 
     for (i = 0; i < MEMBER_COUNT; i++)
-        if (name ? CompareStringOrdinal(name, -1, MEMBERS[i].name, -1, TRUE) == CSTR_EQUAL : MEMBERS[i].id == id)
+        if (name ? CompareStringOrdinal(name, -1, MEMBERS[i].name, -1, TRUE) == CSTR_EQUAL
+                 : MEMBERS[i].id == id)
             break;
     return i < MEMBER_COUNT && is_collection(hub) && !MEMBERS[i].of_collections ? MEMBER_COUNT : i;
 }
 
-static HRESULT STDMETHODCALLTYPE hub_names(IDispatch *self, REFIID riid, LPOLESTR *names, UINT count, LCID locale,
-                                           DISPID *ids)
+static HRESULT STDMETHODCALLTYPE hub_names(IDispatch *self, REFIID riid, LPOLESTR *names,
+                                           UINT count, LCID locale, DISPID *ids)
 {
     int member;
     UINT i;
@@ -277,12 +319,14 @@ static HRESULT list_objects(Connection *connection)
     return S_OK;
 }
 
-/* The same, unless it was done just before: else a loop over many objects would list all of them for each. */
+/* The same, unless it was done just before: else a loop over many objects would list all of them
+ * for each. */
 static HRESULT have_objects(Connection *connection)
 {
     const Listing *listing = &connection->listing;
 
-    if (listing->is_there && GetTickCount64() < listing->until && is_connected(connection) && !has_gone(connection))
+    if (listing->is_there && GetTickCount64() < listing->until && is_connected(connection) &&
+        !has_gone(connection))
         return S_OK;
     return list_objects(connection);
 }
@@ -307,7 +351,8 @@ static const Live *listed(const Listing *listing, UINT32 number)
 {
     UINT32 place = place_of(listing, number);
 
-    return place < listing->count && listing->live[place].number == number ? &listing->live[place] : NULL;
+    return place < listing->count && listing->live[place].number == number ? &listing->live[place]
+                                                                           : NULL;
 }
 
 void note_made(Connection *connection, UINT32 number, REFGUID class)
@@ -316,7 +361,8 @@ void note_made(Connection *connection, UINT32 number, REFGUID class)
 
     if (!listing->is_there)
         return;
-    if (listing->count == listing->room || (listing->count && listing->live[listing->count - 1].number >= number)) {
+    if (listing->count == listing->room ||
+        (listing->count && listing->live[listing->count - 1].number >= number)) {
         listing->is_there = FALSE; /* it is listed anew when somebody asks */
         return;
     }
@@ -332,31 +378,34 @@ static void note_gone(Connection *connection, UINT32 number)
 
     if (place < listing->count && listing->live[place].number == number) {
         listing->count--;
-        memmove(&listing->live[place], &listing->live[place + 1], (listing->count - place) * sizeof(Live));
+        memmove(&listing->live[place], &listing->live[place + 1],
+                (listing->count - place) * sizeof(Live));
     }
 }
 
 /* `generation` is the connection's as the object was listed. */
-static HRESULT make_object(Connection *connection, UINT32 generation, const Live *live, int for_scripts, REFIID iid,
-                           void **made)
+static HRESULT make_object(Connection *connection, UINT32 generation, const Live *live,
+                           int for_scripts, REFIID iid, void **made)
 {
     Target target = {connection, live->class, GUID_NULL, live->number, for_scripts, generation};
 
     return new_object(&target, iid, made);
 }
 
-/* Whether an object is there: by a name that no library has, the server looks at the object first. */
+/* Whether an object is there: by a name that no library has, the server looks at the object
+ * first. */
 static HRESULT check_live(Connection *connection, UINT32 number)
 {
     const WCHAR *name = L"0";
     DISPID id;
-    HRESULT result = names_to_ids(connection, 0, number, &GUID_NULL, &GUID_NULL, &IID_NULL, LOCALE_NEUTRAL, &name, 1,
-                                  &id);
+    HRESULT result = names_to_ids(connection, 0, number, &GUID_NULL, &GUID_NULL, &IID_NULL,
+                                  LOCALE_NEUTRAL, &name, 1, &id);
 
     return result == DISP_E_UNKNOWNNAME ? S_OK : result;
 }
 
-HRESULT find_object(Connection *connection, UINT32 number, int for_scripts, REFIID iid, void **found)
+HRESULT find_object(Connection *connection, UINT32 number, int for_scripts, REFIID iid,
+                    void **found)
 {
     const Listing *listing = &connection->listing;
     const Live *live;
@@ -373,7 +422,8 @@ HRESULT find_object(Connection *connection, UINT32 number, int for_scripts, REFI
     if (FAILED(result = list_objects(connection)))
         return result;
     live = listed(listing, number);
-    return live ? make_object(connection, connection->generation, live, for_scripts, iid, found) : RPC_E_DISCONNECTED;
+    return live ? make_object(connection, connection->generation, live, for_scripts, iid, found)
+                : RPC_E_DISCONNECTED;
 }
 
 /* Whether an object is one of a hub's or a collection's. */
@@ -394,7 +444,8 @@ static UINT32 count_objects(const Hub *hub)
     return is_collection(hub) ? count : listing->count;
 }
 
-/* Those of a hub or a collection as they are now, in the order of their numbers; the caller frees them. */
+/* Those of a hub or a collection as they are now, in the order of their numbers; the caller frees
+ * them. */
 static HRESULT live_objects(const Hub *hub, Live **found, UINT32 *count)
 {
     const Listing *listing = &hub->connection->listing;
@@ -427,8 +478,8 @@ typedef struct Enumerator {
 static const IEnumVARIANTVtbl ENUMERATOR_CALLS;
 
 /* Takes the objects over, also where it fails. */
-static HRESULT new_enumerator(Connection *connection, UINT32 generation, int for_scripts, Live *live, UINT32 count,
-                              IEnumVARIANT **made)
+static HRESULT new_enumerator(Connection *connection, UINT32 generation, int for_scripts,
+                              Live *live, UINT32 count, IEnumVARIANT **made)
 {
     Enumerator *enumerator = calloc(1, sizeof *enumerator);
 
@@ -479,7 +530,8 @@ static ULONG STDMETHODCALLTYPE enumerator_release(IEnumVARIANT *self)
     return left;
 }
 
-static HRESULT STDMETHODCALLTYPE enumerator_next(IEnumVARIANT *self, ULONG wanted, VARIANT *values, ULONG *fetched)
+static HRESULT STDMETHODCALLTYPE enumerator_next(IEnumVARIANT *self, ULONG wanted, VARIANT *values,
+                                                 ULONG *fetched)
 {
     Enumerator *enumerator = (Enumerator *)self;
     HRESULT result = S_OK;
@@ -493,8 +545,9 @@ static HRESULT STDMETHODCALLTYPE enumerator_next(IEnumVARIANT *self, ULONG wante
         VARIANT *value = &values[count];
 
         VariantInit(value);
-        result = make_object(enumerator->connection, enumerator->generation, &enumerator->live[enumerator->place],
-                             enumerator->for_scripts, &IID_IDispatch, (void **)&V_DISPATCH(value));
+        result = make_object(enumerator->connection, enumerator->generation,
+                             &enumerator->live[enumerator->place], enumerator->for_scripts,
+                             &IID_IDispatch, (void **)&V_DISPATCH(value));
         if (FAILED(result))
             break;
         V_VT(value) = VT_DISPATCH;
@@ -534,8 +587,8 @@ static HRESULT STDMETHODCALLTYPE enumerator_clone(IEnumVARIANT *self, IEnumVARIA
     if (!live)
         return E_OUTOFMEMORY;
     memcpy(live, enumerator->live, enumerator->count * sizeof *live);
-    result = new_enumerator(enumerator->connection, enumerator->generation, enumerator->for_scripts, live,
-                            enumerator->count, made);
+    result = new_enumerator(enumerator->connection, enumerator->generation, enumerator->for_scripts,
+                            live, enumerator->count, made);
     if (SUCCEEDED(result))
         ((Enumerator *)*made)->place = enumerator->place;
     return result;
@@ -568,15 +621,16 @@ static HRESULT tell_text(VARIANT *told, const WCHAR *text)
     return S_OK;
 }
 
-/* An argument by its place from the left, and for the time being the one at fault; NULL where a pointer in it is
-   null. */
+/* An argument by its place from the left, and for the time being the one at fault; NULL where a
+   pointer in it is null. */
 static const VARIANT *argument_at(HubCall *call, UINT32 place, VARIANT *room)
 {
     call->argument = call->given->cArgs - 1 - place;
     return value_behind(&call->given->rgvarg[call->argument], room);
 }
 
-/* An argument that is a whole number within bounds; also a CURRENCY, since numbers may be returned as such. */
+/* An argument that is a whole number within bounds; also a CURRENCY, since numbers may be returned
+ * as such. */
 static HRESULT number_at(HubCall *call, UINT32 place, INT64 least, INT64 most, INT64 *number)
 {
     const VARIANT *value;
@@ -674,8 +728,8 @@ static HRESULT object_in_order(HubCall *call)
         call->argument = 0;
         return DISP_E_BADINDEX;
     }
-    result = make_object(hub->connection, hub->connection->generation, &listing->live[i], hub->for_scripts,
-                         &IID_IDispatch, (void **)&V_DISPATCH(&call->told));
+    result = make_object(hub->connection, hub->connection->generation, &listing->live[i],
+                         hub->for_scripts, &IID_IDispatch, (void **)&V_DISPATCH(&call->told));
     if (SUCCEEDED(result))
         V_VT(&call->told) = VT_DISPATCH;
     return result;
@@ -693,8 +747,8 @@ static HRESULT enumerate(HubCall *call)
         free(live);
         return result;
     }
-    if (FAILED(result = new_enumerator(hub->connection, hub->connection->generation, hub->for_scripts, live, count,
-                                       &made)))
+    if (FAILED(result = new_enumerator(hub->connection, hub->connection->generation,
+                                       hub->for_scripts, live, count, &made)))
         return result;
     V_UNKNOWN(&call->told) = (IUnknown *)made;
     V_VT(&call->told) = VT_UNKNOWN;
@@ -707,8 +761,8 @@ static HRESULT object_with_number(HubCall *call)
     HRESULT result = number_at(call, 0, 0, MAXDWORD, &number);
 
     if (SUCCEEDED(result))
-        result = find_object(call->hub->connection, (UINT32)number, call->hub->for_scripts, &IID_IDispatch,
-                             (void **)&V_DISPATCH(&call->told));
+        result = find_object(call->hub->connection, (UINT32)number, call->hub->for_scripts,
+                             &IID_IDispatch, (void **)&V_DISPATCH(&call->told));
     if (SUCCEEDED(result))
         V_VT(&call->told) = VT_DISPATCH;
     return result;
@@ -722,14 +776,15 @@ static HRESULT objects_of_class(HubCall *call)
     const WCHAR *name;
     HRESULT result;
 
-    if (FAILED(result = text_at(call, 0, &name)) || FAILED(result = library_of(hub->connection, &library)))
+    if (FAILED(result = text_at(call, 0, &name)) ||
+        FAILED(result = library_of(hub->connection, &library)))
         return result;
     if (!(coclass = find_coclass_named(library, name))) {
         call->argument = 0;
         return DISP_E_UNKNOWNNAME;
     }
-    result = new_collection(hub->connection, &hub->class, &coclass->guid, hub->for_scripts, &IID_IDispatch,
-                            (void **)&V_DISPATCH(&call->told));
+    result = new_collection(hub->connection, &hub->class, &coclass->guid, hub->for_scripts,
+                            &IID_IDispatch, (void **)&V_DISPATCH(&call->told));
     if (SUCCEEDED(result))
         V_VT(&call->told) = VT_DISPATCH;
     return result;
@@ -756,7 +811,8 @@ static HRESULT object_as(HubCall *call, const Target *target)
     const Item *type;
     HRESULT result;
 
-    if (FAILED(result = text_at(call, 1, &name)) || FAILED(result = library_of(target->connection, &library)))
+    if (FAILED(result = text_at(call, 1, &name)) ||
+        FAILED(result = library_of(target->connection, &library)))
         return result;
     if (!(type = find_interface_named(library, &target->class, name))) {
         call->argument = 0;
@@ -790,21 +846,25 @@ static HRESULT property_at(HubCall *call, const Target *target, DISPID *id)
 
     if (FAILED(result))
         return result;
-    result = names_to_ids(target->connection, target->generation, target->number, &target->class, &target->iid,
-                          &IID_NULL, LOCALE_NEUTRAL, &text, 1, id);
+    result = names_to_ids(target->connection, target->generation, target->number, &target->class,
+                          &target->iid, &IID_NULL, LOCALE_NEUTRAL, &text, 1, id);
     if (result != S_OK)
         call->argument = result == DISP_E_UNKNOWNNAME ? call->given->cArgs - 2 : NO_ARGUMENT;
     return result;
 }
 
-/* Redim, Lock, Unlock: the property by its name, then Redim's count and lowest index, then the property's arguments. */
+/* Redim, Lock, Unlock: the property by its name, then Redim's count and lowest index, then the
+ * property's arguments. */
 static HRESULT change_array(HubCall *hub_call, const Target *target)
 {
-    static const enum opcode opcodes[] = {[HUB_REDIM] = OP_REDIM, [HUB_LOCK] = OP_LOCK, [HUB_UNLOCK] = OP_UNLOCK};
+    static const enum opcode opcodes[] = {
+        [HUB_REDIM] = OP_REDIM, [HUB_LOCK] = OP_LOCK, [HUB_UNLOCK] = OP_UNLOCK};
+
     const DISPPARAMS *given = hub_call->given;
     Connection *connection = target->connection;
     BOOL is_redim = hub_call->member == HUB_REDIM;
-    UINT32 places = is_redim ? 4 : 2, arguments = given->cArgs > places ? given->cArgs - places : 0, i;
+    UINT32 places = is_redim ? 4 : 2, arguments = given->cArgs > places ? given->cArgs - places : 0,
+           i;
     INT64 count = 0, lowest = 0;
     const WCHAR *text;
     HRESULT result;
@@ -814,12 +874,15 @@ static HRESULT change_array(HubCall *hub_call, const Target *target)
 
     if (FAILED(result = text_at(hub_call, 1, &text)) ||
         (is_redim && FAILED(result = number_at(hub_call, 2, 0, MAXDWORD, &count))) ||
-        (is_redim && given->cArgs > 3 && FAILED(result = number_at(hub_call, 3, INT32_MIN, INT32_MAX, &lowest))) ||
-        (result = property_at(hub_call, target, &call.id)) != S_OK || FAILED(result = find_types(&call)))
+        (is_redim && given->cArgs > 3 &&
+         FAILED(result = number_at(hub_call, 3, INT32_MIN, INT32_MAX, &lowest))) ||
+        (result = property_at(hub_call, target, &call.id)) != S_OK ||
+        FAILED(result = find_types(&call)))
         return result;
     to = begin_call(&call, opcodes[hub_call->member], arguments, 0);
     for (i = 0; i < arguments; i++)
-        if (FAILED(result = write_argument(&call, to, i, type_of_parameter(&call, arguments - 1 - i)))) {
+        if (FAILED(result = write_argument(&call, to, i,
+                                           type_of_parameter(&call, arguments - 1 - i)))) {
             hub_call->argument = call.argument;
             return result;
         }
@@ -840,7 +903,8 @@ static HRESULT change_array(HubCall *hub_call, const Target *target)
     return from.bad ? OAUT_E_NO_REPLY : S_OK;
 }
 
-/* Returns the number of an object that has changed, -1 if any may have, 0 if none has in time. Does not hold the lock. */
+/* Returns the number of an object that has changed, -1 if any may have, 0 if none has in time. Does
+ * not hold the lock. */
 static HRESULT wait_for_any_change(HubCall *call)
 {
     Hub *hub = call->hub;
@@ -856,7 +920,8 @@ static HRESULT wait_for_any_change(HubCall *call)
     if (!hub->watch && !(hub->watch = new_watch()))
         return E_OUTOFMEMORY;
     connection_leave(hub->connection, S_OK);
-    result = wait_for_change(hub->watch, settings, &hub->coclass, (DWORD)milliseconds, &object, &call->cause);
+    result = wait_for_change(hub->watch, settings, &hub->coclass, (DWORD)milliseconds, &object,
+                             &call->cause);
     connection_enter(hub->connection);
     if (result == S_OK && object == ANY_CHANGED) {
         V_I4(&call->told) = ANY_CHANGED;
@@ -878,7 +943,8 @@ static HRESULT keys_of_property(HubCall *call, const Target *target)
     GUID guid;
     DISPID id;
 
-    if ((result = property_at(call, target, &id)) != S_OK || FAILED(result = library_of(connection, &library)))
+    if ((result = property_at(call, target, &id)) != S_OK ||
+        FAILED(result = library_of(connection, &library)))
         return result;
     if (!(type = find_interface(library, &target->class, &target->iid)))
         return E_NOINTERFACE;
@@ -887,7 +953,8 @@ static HRESULT keys_of_property(HubCall *call, const Target *target)
     if (!*settings->watch)
         return OAUT_E_NOT_REACHED;
     connection_leave(connection, S_OK);
-    result = list_keys(settings, target->number, &guid, id, target->for_scripts, &call->told, &call->cause);
+    result = list_keys(settings, target->number, &guid, id, target->for_scripts, &call->told,
+                       &call->cause);
     connection_enter(connection);
     return result;
 }
@@ -898,37 +965,59 @@ static HRESULT perform(HubCall *call)
     HRESULT result;
 
     switch (call->member) {
-    case HUB_ITEM: return object_in_order(call);
-    case HUB_NEW_ENUM: return enumerate(call);
-    case HUB_OBJECT: return object_with_number(call);
-    case HUB_OBJECTS: return objects_of_class(call);
-    case HUB_NUMBERS: return list_numbers(call->hub, &call->told);
-    case HUB_WAIT_FOR_CHANGE: return wait_for_any_change(call);
+    case HUB_ITEM:
+        return object_in_order(call);
+    case HUB_NEW_ENUM:
+        return enumerate(call);
+    case HUB_OBJECT:
+        return object_with_number(call);
+    case HUB_OBJECTS:
+        return objects_of_class(call);
+    case HUB_NUMBERS:
+        return list_numbers(call->hub, &call->told);
+    case HUB_WAIT_FOR_CHANGE:
+        return wait_for_any_change(call);
     case HUB_COUNT:
         if (SUCCEEDED(result = have_objects(call->hub->connection)))
             tell_number(&call->told, count_objects(call->hub));
         return result;
-    default: break;
+    default:
+        break;
     }
     if (FAILED(result = object_at(call, &target)))
         return result;
     switch (call->member) {
-    case HUB_NUMBER_OF: tell_number(&call->told, target->number); return S_OK;
-    case HUB_CLASS_OF: return name_of_class(call, target);
-    case HUB_INTERFACE_OF: return object_as(call, target);
-    case HUB_KEYS: return keys_of_property(call, target);
+    case HUB_NUMBER_OF:
+        tell_number(&call->told, target->number);
+        return S_OK;
+    case HUB_CLASS_OF:
+        return name_of_class(call, target);
+    case HUB_INTERFACE_OF:
+        return object_as(call, target);
+    case HUB_KEYS:
+        return keys_of_property(call, target);
     case HUB_RELEASE:
-    case HUB_REMOVE: return release_number(target);
-    default: return change_array(call, target);
+    case HUB_REMOVE:
+        return release_number(target);
+    default:
+        return change_array(call, target);
     }
 }
 
 /* Describes the error of a call in words, if the host has passed a structure for them. */
 static HRESULT refuse(const HubCall *call, int member, HRESULT code, EXCEPINFO *told)
 {
-    Refusal refusal = {
-        code,        NULL,       NULL, NULL, NULL, VT_EMPTY, NULL, call->hub->for_scripts, call->hub->connection,
-        call->watch, call->cause};
+    Refusal refusal = {code,
+                       NULL,
+                       NULL,
+                       NULL,
+                       NULL,
+                       VT_EMPTY,
+                       NULL,
+                       call->hub->for_scripts,
+                       call->hub->connection,
+                       call->watch,
+                       call->cause};
     WCHAR source[80];
 
     if (!told)
@@ -948,8 +1037,9 @@ static HRESULT refuse(const HubCall *call, int member, HRESULT code, EXCEPINFO *
     return tell_refusal(&refusal, call->hub->for_scripts, told);
 }
 
-static HRESULT STDMETHODCALLTYPE hub_invoke(IDispatch *self, DISPID id, REFIID riid, LCID locale, WORD flags,
-                                            DISPPARAMS *given, VARIANT *result, EXCEPINFO *exception, UINT *argument)
+static HRESULT STDMETHODCALLTYPE hub_invoke(IDispatch *self, DISPID id, REFIID riid, LCID locale,
+                                            WORD flags, DISPPARAMS *given, VARIANT *result,
+                                            EXCEPINFO *exception, UINT *argument)
 {
     int member = member_with((Hub *)self, NULL, id);
     HRESULT code = check_arguments(given);

@@ -31,7 +31,8 @@ static HRESULT interface_in_file(ITypeLib *library, const Target *target, ITypeI
     if (SUCCEEDED(result = ITypeInfo_GetTypeAttr(class, &attributes))) {
         result = TYPE_E_ELEMENTNOTFOUND;
         for (i = 0; i < attributes->cImplTypes; i++) {
-            if (FAILED(ITypeInfo_GetImplTypeFlags(class, i, &flags)) || !(flags & IMPLTYPEFLAG_FDEFAULT))
+            if (FAILED(ITypeInfo_GetImplTypeFlags(class, i, &flags)) ||
+                !(flags & IMPLTYPEFLAG_FDEFAULT))
                 continue;
             result = ITypeInfo_GetRefTypeOfImplType(class, i, &reference);
             if (SUCCEEDED(result))
@@ -108,10 +109,12 @@ static HRESULT add_function(ICreateTypeInfo *to, UINT index, const Member *membe
     function.invkind = (INVOKEKIND)member->kind;
     function.callconv = CC_STDCALL;
     function.cParams = (SHORT)member->declared;
-    function.elemdescFunc.tdesc = type_of(member->kind == INVOKE_PROPERTYGET ? member->type : VT_VOID, &cells);
+    function.elemdescFunc.tdesc = type_of(
+        member->kind == INVOKE_PROPERTYGET ? member->type : VT_VOID, &cells);
     copy_name(&member->name, name);
     names[0] = name;
-    for (i = 0; i < member->declared && parameter_at(member, i, &parameter) && SUCCEEDED(result); i++) {
+    for (i = 0; i < member->declared && parameter_at(member, i, &parameter) && SUCCEEDED(result);
+         i++) {
         ELEMDESC *made = &parameters[i];
 
         made->tdesc = type_of(parameter.type, &rooms[i].cells);
@@ -134,7 +137,8 @@ static HRESULT add_function(ICreateTypeInfo *to, UINT index, const Member *membe
     return result;
 }
 
-/* IDispatch as the system's type library has it, which is above each dispinterface of a file; NULL if it is not there. */
+/* IDispatch as the system's type library has it, which is above each dispinterface of a file; NULL
+ * if it is not there. */
 static ITypeInfo *system_dispatch(void)
 {
     static const GUID system = {0x00020430, 0, 0, {0xC0, 0, 0, 0, 0, 0, 0, 0x46}};
@@ -183,8 +187,8 @@ static HRESULT end_type(ICreateTypeInfo *made, HRESULT result, ITypeInfo **found
 }
 
 /* Adds an interface under a name, and gives it as it can be read. */
-static HRESULT add_interface(ICreateTypeLib2 *library, const Item *type, WCHAR *name, ITypeInfo *above,
-                             ITypeInfo **found)
+static HRESULT add_interface(ICreateTypeLib2 *library, const Item *type, WCHAR *name,
+                             ITypeInfo *above, ITypeInfo **found)
 {
     UINT functions = 0, properties = 0;
     Reader at = entries_of(type);
@@ -197,7 +201,8 @@ static HRESULT add_interface(ICreateTypeLib2 *library, const Item *type, WCHAR *
         return result;
     while (SUCCEEDED(result) && next_member(&at, &member))
         if (member.declared <= MAX_ARGUMENTS) /* what has more cannot be called */
-            result = member.kind ? add_function(made, functions++, &member) : add_property(made, properties++, &member);
+            result = member.kind ? add_function(made, functions++, &member)
+                                 : add_property(made, properties++, &member);
     return end_type(made, result, found);
 }
 
@@ -213,7 +218,8 @@ static HRESULT add_implemented(ICreateTypeInfo *class, UINT place, ITypeInfo *ty
     return result;
 }
 
-static HRESULT begin_class(ICreateTypeLib2 *library, WCHAR *name, REFGUID guid, ICreateTypeInfo **made)
+static HRESULT begin_class(ICreateTypeLib2 *library, WCHAR *name, REFGUID guid,
+                           ICreateTypeInfo **made)
 {
     HRESULT result = ICreateTypeLib2_CreateTypeInfo(library, name, TKIND_COCLASS, made);
 
@@ -229,8 +235,10 @@ static HRESULT begin_class(ICreateTypeLib2 *library, WCHAR *name, REFGUID guid, 
 
 /* ---- the hub */
 
-/* Adds a member of the hub. A member with any number of arguments takes an array of them after the required ones. */
-static HRESULT add_hub_member(ICreateTypeInfo *to, UINT index, const HubMember *member, ITypeInfo *collection)
+/* Adds a member of the hub. A member with any number of arguments takes an array of them after the
+ * required ones. */
+static HRESULT add_hub_member(ICreateTypeInfo *to, UINT index, const HubMember *member,
+                              ITypeInfo *collection)
 {
     WCHAR names[HUB_WORDS + 2][24];
     LPOLESTR words[HUB_WORDS + 2];
@@ -245,7 +253,11 @@ static HRESULT add_hub_member(ICreateTypeInfo *to, UINT index, const HubMember *
     memset(parameters, 0, sizeof parameters);
     memset(&pointed, 0, sizeof pointed);
     for (i = 0; i <= count; i++) {
-        lstrcpynW(names[i], !i ? member->name : i <= member->least ? member->arguments[i - 1].name : L"more", 24);
+        lstrcpynW(names[i],
+                  !i                   ? member->name
+                  : i <= member->least ? member->arguments[i - 1].name
+                                       : L"more",
+                  24);
         words[i] = names[i];
     }
     for (i = 0; i < count; i++) {
@@ -261,7 +273,8 @@ static HRESULT add_hub_member(ICreateTypeInfo *to, UINT index, const HubMember *
     function.callconv = CC_STDCALL;
     function.cParams = (SHORT)count;
     function.cParamsOpt = has_rest ? -1 : 0;
-    function.wFuncFlags = member->id == DISPID_NEWENUM ? FUNCFLAG_FRESTRICTED | FUNCFLAG_FHIDDEN : 0;
+    function.wFuncFlags = member->id == DISPID_NEWENUM ? FUNCFLAG_FRESTRICTED | FUNCFLAG_FHIDDEN
+                                                       : 0;
     function.elemdescFunc.tdesc.vt = member->type;
     if (member->type == VT_USERDEFINED && collection) {
         result = ICreateTypeInfo_AddRefTypeInfo(to, collection, &pointed.hreftype);
@@ -273,12 +286,14 @@ static HRESULT add_hub_member(ICreateTypeInfo *to, UINT index, const HubMember *
     }
     if (SUCCEEDED(result))
         result = ICreateTypeInfo_AddFuncDesc(to, index, &function);
-    return SUCCEEDED(result) ? ICreateTypeInfo_SetFuncAndParamNames(to, index, words, count + 1) : result;
+    return SUCCEEDED(result) ? ICreateTypeInfo_SetFuncAndParamNames(to, index, words, count + 1)
+                             : result;
 }
 
-/* Adds the dispinterface of the hub or of its collections, which is what the hub's Objects then gives. */
-static HRESULT add_hub(ICreateTypeLib2 *library, REFGUID hub, WCHAR *name, ITypeInfo *above, ITypeInfo *collection,
-                       BOOL is_collection, ITypeInfo **found)
+/* Adds the dispinterface of the hub or of its collections, which is what the hub's Objects then
+ * gives. */
+static HRESULT add_hub(ICreateTypeLib2 *library, REFGUID hub, WCHAR *name, ITypeInfo *above,
+                       ITypeInfo *collection, BOOL is_collection, ITypeInfo **found)
 {
     GUID guid = part_of_hub(hub, is_collection ? PART_COLLECTION : PART_HUB);
     const HubMember *member;
@@ -292,7 +307,8 @@ static HRESULT add_hub(ICreateTypeLib2 *library, REFGUID hub, WCHAR *name, IType
         return result;
     for (i = 0; SUCCEEDED(result) && (member = hub_member(i)); i++)
         /* below IDispatch a member Release would be hidden by COM's own; Remove is the same */
-        if ((member->of_collections || !is_collection) && !(above && !wcscmp(member->name, L"Release")))
+        if ((member->of_collections || !is_collection) &&
+            !(above && !wcscmp(member->name, L"Release")))
             result = add_hub_member(made, index++, member, collection);
     return end_type(made, result, found);
 }
@@ -319,7 +335,8 @@ static void free_name(const Library *told, const WCHAR *wanted, WCHAR name[MAX_N
 }
 
 /* Adds the hub, its class and its collections to a library that is written. */
-static HRESULT add_hub_types(ICreateTypeLib2 *library, const Library *told, REFGUID hub, ITypeInfo *above)
+static HRESULT add_hub_types(ICreateTypeLib2 *library, const Library *told, REFGUID hub,
+                             ITypeInfo *above)
 {
     ITypeInfo *collection = NULL, *face = NULL, *whole = NULL;
     ICreateTypeInfo *class;
@@ -388,7 +405,8 @@ HRESULT hub_information(REFGUID hub, BOOL is_collection, ITypeInfo **found)
 
 #define WRITTEN L": objects of an oaut server, written as it was registered" /* after the name */
 
-static HRESULT add_coclass(ICreateTypeLib2 *library, const Library *told, const Item *coclass, ITypeInfo **types)
+static HRESULT add_coclass(ICreateTypeLib2 *library, const Library *told, const Item *coclass,
+                           ITypeInfo **types)
 {
     WCHAR name[MAX_NAME + 1];
     ICreateTypeInfo *made;
@@ -426,8 +444,9 @@ HRESULT write_types(const Library *told, REFGUID hub, const WCHAR *name, WCHAR *
         result = ICreateTypeLib2_SetDocString(library, mark);
     for (i = 0; SUCCEEDED(result) && i < told->count; i++) { /* interfaces come first */
         memcpy(own, told->items[i].name, sizeof own);
-        result = told->items[i].kind == KIND_INTERFACE ? add_interface(library, &told->items[i], own, above, &types[i])
-                                                       : add_coclass(library, told, &told->items[i], types);
+        result = told->items[i].kind == KIND_INTERFACE
+                     ? add_interface(library, &told->items[i], own, above, &types[i])
+                     : add_coclass(library, told, &told->items[i], types);
     }
     if (SUCCEEDED(result))
         result = add_hub_types(library, told, hub, above);
@@ -496,7 +515,8 @@ static HRESULT make_class(const Target *target, const Library *told, ITypeInfo *
         return result;
     memcpy(name, coclass->name, sizeof name);
     if (SUCCEEDED(result = begin_class(library, name, &coclass->guid, &made))) {
-        for (i = 0; SUCCEEDED(result) && (type = interface_at(told, coclass, i, &is_default)); i++) {
+        for (i = 0; SUCCEEDED(result) && (type = interface_at(told, coclass, i, &is_default));
+             i++) {
             ITypeInfo *its;
 
             memcpy(name, type->name, sizeof name);

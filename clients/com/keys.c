@@ -78,7 +78,8 @@ static HRESULT read_stored(Reader *from, int how, VARIANT *value)
         read_bytes(from, &minus, 1);
         V_BOOL(value) = minus ? VARIANT_TRUE : VARIANT_FALSE;
     } else if (width_of(type)) {
-        read_bytes(from, &V_UI8(value), width_of(type)); /* the numbers of the union begin at one place */
+        /* the numbers of the union begin at one place */
+        read_bytes(from, &V_UI8(value), width_of(type));
     } else if (type != VT_EMPTY && type != VT_NULL) {
         return OAUT_E_NO_REPLY;
     }
@@ -108,10 +109,13 @@ static HRESULT read_key(Reader *from, int how, VARIANT *value)
 
 static int digit_of(char sign)
 {
-    return sign >= '0' && sign <= '9' ? sign - '0' : sign >= 'a' && sign <= 'f' ? sign - 'a' + 10 : -1;
+    return sign >= '0' && sign <= '9'   ? sign - '0'
+           : sign >= 'a' && sign <= 'f' ? sign - 'a' + 10
+                                        : -1;
 }
 
-/* The bytes of a line of hexadecimal digits in quotation marks, in its place; their number, or -1 if it is none. */
+/* The bytes of a line of hexadecimal digits in quotation marks, in its place; their number, or -1
+ * if it is none. */
 static int bytes_of_line(char *line, size_t length)
 {
     size_t i;
@@ -156,8 +160,8 @@ static HRESULT read_keys(Watch *watch, ULONGLONG until, UINT32 count, int how, C
 }
 
 /* Asks once. S_FALSE if the time is up, or if the gateway is busy (`is_busy`). */
-static HRESULT ask_for_keys(const Settings *settings, const char *line, ULONGLONG until, int how, Cells *keys,
-                            BOOL *is_busy, int *cause)
+static HRESULT ask_for_keys(const Settings *settings, const char *line, ULONGLONG until, int how,
+                            Cells *keys, BOOL *is_busy, int *cause)
 {
     Watch *watch = new_watch();
     char *first = NULL;
@@ -183,8 +187,8 @@ static HRESULT ask_for_keys(const Settings *settings, const char *line, ULONGLON
     return result;
 }
 
-HRESULT list_keys(const Settings *settings, UINT32 object, REFGUID interface_id, DISPID member, int how, VARIANT *keys,
-                  int *cause)
+HRESULT list_keys(const Settings *settings, UINT32 object, REFGUID interface_id, DISPID member,
+                  int how, VARIANT *keys, int *cause)
 {
     ULONGLONG until = settings->timeout ? GetTickCount64() + settings->timeout : MAXULONGLONG;
     Cells cells = {NULL, 0, 0};
@@ -194,9 +198,11 @@ HRESULT list_keys(const Settings *settings, UINT32 object, REFGUID interface_id,
     BOOL is_busy;
 
     StringFromGUID2(interface_id, guid, 40);
-    snprintf(line, sizeof line, "keys object=%u interface=%ls member=%ld\n", object, guid, (long)member);
-    while ((result = ask_for_keys(settings, line, until, how, &cells, &is_busy, cause)) == S_FALSE && is_busy &&
-           GetTickCount64() < until)
+    snprintf(line, sizeof line, "keys object=%u interface=%ls member=%ld\n", object, guid,
+             (long)member);
+    while ((result = ask_for_keys(settings, line, until, how, &cells, &is_busy, cause)) ==
+               S_FALSE &&
+           is_busy && GetTickCount64() < until)
         Sleep(AGAIN_AFTER);
     if (result == S_FALSE || result == OAUT_E_NO_REPLY) {
         *cause = result == S_FALSE ? WSAETIMEDOUT : WSAEPROTONOSUPPORT;

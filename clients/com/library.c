@@ -54,18 +54,20 @@ static BOOL same_name(const WCHAR *one, const WCHAR *other, UINT32 length)
     return TRUE;
 }
 
-static KnownName *find_name(const Library *library, REFGUID class, REFIID iid, const WCHAR *text, UINT32 length)
+static KnownName *find_name(const Library *library, REFGUID class, REFIID iid, const WCHAR *text,
+                            UINT32 length)
 {
     KnownName *name;
 
     for (name = library->names; name; name = name->next)
-        if (name->length == length && IsEqualGUID(&name->class, class) && IsEqualGUID(&name->iid, iid) &&
-            same_name(name->text, text, length))
+        if (name->length == length && IsEqualGUID(&name->class, class) &&
+            IsEqualGUID(&name->iid, iid) && same_name(name->text, text, length))
             return name;
     return NULL;
 }
 
-static void remember_name(Library *library, REFGUID class, REFIID iid, const WCHAR *text, UINT32 length, DISPID id)
+static void remember_name(Library *library, REFGUID class, REFIID iid, const WCHAR *text,
+                          UINT32 length, DISPID id)
 {
     KnownName *name;
 
@@ -80,8 +82,9 @@ static void remember_name(Library *library, REFGUID class, REFIID iid, const WCH
     library->names = name;
 }
 
-HRESULT names_to_ids(Connection *connection, UINT32 generation, UINT32 object, REFGUID class, REFIID iid, REFIID riid,
-                     LCID locale, const WCHAR *const *names, UINT32 count, DISPID *ids)
+HRESULT names_to_ids(Connection *connection, UINT32 generation, UINT32 object, REFGUID class,
+                     REFIID iid, REFIID riid, LCID locale, const WCHAR *const *names, UINT32 count,
+                     DISPID *ids)
 {
     BOOL alone = count == 1 && IsEqualGUID(riid, &GUID_NULL);
     KnownName *known = NULL;
@@ -125,7 +128,8 @@ HRESULT names_to_ids(Connection *connection, UINT32 generation, UINT32 object, R
     for (i = 0; i < count; i++)
         ids[i] = (DISPID)read_32(&from);
     if (alone && result == S_OK)
-        remember_name(connection->library, class, iid, names[0], (UINT32)lstrlenW(names[0]), ids[0]);
+        remember_name(connection->library, class, iid, names[0], (UINT32)lstrlenW(names[0]),
+                      ids[0]);
     return result;
 }
 
@@ -171,7 +175,8 @@ void copy_name(const Name *name, WCHAR text[MAX_NAME + 1])
     text[name->length] = 0;
 }
 
-BOOL name_told(const Connection *connection, REFGUID class, REFIID iid, DISPID id, WCHAR text[MAX_NAME + 1])
+BOOL name_told(const Connection *connection, REFGUID class, REFIID iid, DISPID id,
+               WCHAR text[MAX_NAME + 1])
 {
     const Library *library = connection->library;
     const Item *type = find_interface(library, class, iid);
@@ -201,7 +206,8 @@ static BOOL read_name(Reader *from, Name *name)
     return !from->bad;
 }
 
-static HRESULT ask_item(Connection *connection, enum way way, UINT32 index, Item *item, Reader *entries)
+static HRESULT ask_item(Connection *connection, enum way way, UINT32 index, Item *item,
+                        Reader *entries)
 {
     Writer *to = begin_request(connection, OP_TYPEINFO);
     HRESULT result;
@@ -341,14 +347,17 @@ const Item *interface_at(const Library *library, const Item *class, UINT32 place
 }
 
 /* By its GUID if it has no name. */
-static const Item *interface_of(const Library *library, REFGUID class, REFIID iid, const WCHAR *name)
+static const Item *interface_of(const Library *library, REFGUID class, REFIID iid,
+                                const WCHAR *name)
 {
     const Item *coclass = find_coclass(library, class), *found;
     BOOL is_default;
     UINT32 i;
 
     for (i = 0; coclass && (found = interface_at(library, coclass, i, &is_default)); i++)
-        if (name ? is_named(found, name) : IsEqualGUID(iid, &GUID_NULL) ? is_default : IsEqualGUID(iid, &found->guid))
+        if (name                           ? is_named(found, name)
+            : IsEqualGUID(iid, &GUID_NULL) ? is_default
+                                           : IsEqualGUID(iid, &found->guid))
             return found;
     return NULL;
 }
@@ -365,7 +374,8 @@ const Item *find_interface_named(const Library *library, REFGUID class, const WC
 
 /* ---- all of a library */
 
-/* Keeps an item whose entries have come, once all of them are read: what is looked for later is there. */
+/* Keeps an item whose entries have come, once all of them are read: what is looked for later is
+ * there. */
 static HRESULT add_item(Library *library, Item *item, Reader *entries)
 {
     Item *all = realloc(library->items, (library->count + 1) * sizeof *all);
@@ -417,7 +427,8 @@ static HRESULT read_library(Connection *connection, enum way first)
         if (!index)
             forget_items(library);
         if (index >= MAX_ITEMS || item.count > MAX_ENTRIES ||
-            (item.kind != KIND_INTERFACE && item.kind != KIND_COCLASS) || (item.kind == KIND_INTERFACE && has_classes))
+            (item.kind != KIND_INTERFACE && item.kind != KIND_COCLASS) ||
+            (item.kind == KIND_INTERFACE && has_classes))
             result = OAUT_E_NO_REPLY; /* interfaces come first: an index is one of theirs */
         else
             result = add_item(library, &item, &entries);
@@ -466,8 +477,8 @@ static BOOL same_parameters(const Member *one, const Member *other)
     UINT32 i;
 
     for (i = 0; i < one->declared; i++)
-        if (!parameter_at(one, i, &a) || !parameter_at(other, i, &b) || a.type != b.type || a.flags != b.flags ||
-            !same_names(&a.name, &b.name))
+        if (!parameter_at(one, i, &a) || !parameter_at(other, i, &b) || a.type != b.type ||
+            a.flags != b.flags || !same_names(&a.name, &b.name))
             return FALSE;
     return TRUE;
 }
@@ -478,9 +489,10 @@ static BOOL has_member(const Item *type, const Member *wanted)
     Member member;
 
     while (next_member(&at, &member))
-        if (member.id == wanted->id && member.kind == wanted->kind && member.flags == wanted->flags &&
-            member.type == wanted->type && member.declared == wanted->declared &&
-            same_names(&member.name, &wanted->name) && same_parameters(&member, wanted))
+        if (member.id == wanted->id && member.kind == wanted->kind &&
+            member.flags == wanted->flags && member.type == wanted->type &&
+            member.declared == wanted->declared && same_names(&member.name, &wanted->name) &&
+            same_parameters(&member, wanted))
             return TRUE;
     return FALSE;
 }
@@ -497,7 +509,8 @@ static BOOL has_members(const Item *type, const Item *before)
 }
 
 /* Whether a coclass has the interfaces of an earlier one, and the same default one. */
-static BOOL has_interfaces(const Library *library, const Item *class, const Library *before_library, const Item *before)
+static BOOL has_interfaces(const Library *library, const Item *class, const Library *before_library,
+                           const Item *before)
 {
     const Item *wanted, *found;
     BOOL was_default, is_default;
@@ -521,8 +534,9 @@ static BOOL has_item(const Library *library, const Library *before_library, cons
     for (i = 0; i < library->count; i++) {
         item = &library->items[i];
         if (item->kind == before->kind && IsEqualGUID(&item->guid, &before->guid))
-            return item->kind == KIND_INTERFACE ? has_members(item, before)
-                                                : has_interfaces(library, item, before_library, before);
+            return item->kind == KIND_INTERFACE
+                       ? has_members(item, before)
+                       : has_interfaces(library, item, before_library, before);
     }
     return FALSE;
 }
@@ -540,7 +554,8 @@ static BOOL has_known_name(const Library *library, const KnownName *name)
         WCHAR text[MAX_NAME + 1];
 
         copy_name(&member.name, text);
-        if (member.id == name->id && member.name.length == name->length && same_name(text, name->text, name->length))
+        if (member.id == name->id && member.name.length == name->length &&
+            same_name(text, name->text, name->length))
             return TRUE;
     }
     return FALSE;

@@ -37,7 +37,8 @@ static BOOL print(const WCHAR *text, DWORD stream)
     return WriteFile(to, bytes, (DWORD)length + 1, &done, NULL);
 }
 
-/* In a box, if the host has loaded what shows one: the DLL itself asks for no part of the system that scripts do not. */
+/* In a box, if the host has loaded what shows one: the DLL itself asks for no part of the system
+ * that scripts do not. */
 static void show(const WCHAR *text)
 {
     typedef int WINAPI Box(HWND, LPCWSTR, LPCWSTR, UINT);

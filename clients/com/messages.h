@@ -4,7 +4,8 @@
 
 #include "connection.h"
 
-/* Prints a line on standard error, if the host has one; else shows it, unless regsvr32 was started with /s. */
+/* Prints a line on standard error, if the host has one; else shows it, unless regsvr32 was started
+ * with /s. */
 void report(const WCHAR *format, ...);
 /* Prints a line that reports no failure on standard output. */
 void say(const WCHAR *format, ...);

@@ -1,16 +1,15 @@
 /* oautreg: registers servers for COM, for the DLL in its own folder.
 
-       oautreg add NAME HOST:PORT [--all-users] [--script 0|1|2] [--texts] [--watch PORT] [--these-bits]
-       oautreg remove NAME [--all-users] [--these-bits]        oautreg remove --all [--these-bits]
-       oautreg repair NAME [--all-users] [--these-bits]
-       oautreg list
-       oautreg test HOST:PORT
-       oautreg window
+       oautreg add NAME HOST:PORT [--all-users] [--script 0|1|2] [--texts] [--watch PORT]
+   [--these-bits] oautreg remove NAME [--all-users] [--these-bits]        oautreg remove --all
+   [--these-bits] oautreg repair NAME [--all-users] [--these-bits] oautreg list oautreg test
+   HOST:PORT oautreg window
 
-   Without --all-users it is for the user alone, and wants no administrator rights. Programs of 64 and of 32 bits have
-   classes of their own, each served by a DLL of its bits. So the tool does its part, and then runs the tool of the other
-   bits in the folder 32 or 64 next to its own, unless --these-bits is given. Prints what it has done; a failure is a line
-   on standard error and status 1. Started without words, and not from a command line, it shows its window. */
+   Without --all-users it is for the user alone, and wants no administrator rights. Programs of 64
+   and of 32 bits have classes of their own, each served by a DLL of its bits. So the tool does its
+   part, and then runs the tool of the other bits in the folder 32 or 64 next to its own, unless
+   --these-bits is given. Prints what it has done; a failure is a line on standard error and
+   status 1. Started without words, and not from a command line, it shows its window. */
 #include "oautreg.h"
 
 #include <stdarg.h>
@@ -71,11 +70,11 @@ static int fail(const WCHAR *format, ...)
 
 static int usage(void)
 {
-    return fail(
-        L"%ls",
-        L"add NAME HOST:PORT [--all-users] [--script 0|1|2] [--texts] [--watch PORT], remove NAME [--all-users], "
-        L"remove --all, repair NAME [--all-users], list, test HOST:PORT, or window; --these-bits leaves programs of "
-        L"other bits out");
+    return fail(L"%ls", L"add NAME HOST:PORT [--all-users] [--script 0|1|2] [--texts] [--watch "
+                        L"PORT], remove NAME [--all-users], "
+                        L"remove --all, repair NAME [--all-users], list, test HOST:PORT, or "
+                        L"window; --these-bits leaves programs of "
+                        L"other bits out");
 }
 
 /* A function of the DLL in the folder of this program. */
@@ -99,7 +98,8 @@ static REGSAM view_of(int bits)
 }
 
 /* Reads a value of a class, of a kind and a size. */
-static BOOL read_value(const Entry *entry, const WCHAR *below, const WCHAR *name, DWORD kind, void *value, DWORD *size)
+static BOOL read_value(const Entry *entry, const WCHAR *below, const WCHAR *name, DWORD kind,
+                       void *value, DWORD *size)
 {
     LSTATUS status;
     HKEY key;
@@ -111,7 +111,8 @@ static BOOL read_value(const Entry *entry, const WCHAR *below, const WCHAR *name
     return !status;
 }
 
-static BOOL text_of(const Entry *entry, const WCHAR *below, const WCHAR *name, WCHAR *text, DWORD units)
+static BOOL text_of(const Entry *entry, const WCHAR *below, const WCHAR *name, WCHAR *text,
+                    DWORD units)
 {
     DWORD size = units * sizeof *text;
 
@@ -137,17 +138,19 @@ static void read_entry(HKEY root, Entry *entry)
                       text_of(entry, L"Oaut", L"Host", entry->host, 256) &
                       text_of(entry, L"Oaut", L"Port", entry->port, 16) &
                       text_of(entry, L"InprocServer32", NULL, entry->server, MAX_PATH);
-    if (!entry->progid[0]) /* damaged: the class has its name as its text too, so that it can be repaired */
+    /* damaged: the class has its name as its text too, so that it can be repaired */
+    if (!entry->progid[0])
         text_of(entry, NULL, NULL, entry->progid, 128);
     swprintf(progid, 160, L"%ls\\%ls\\CLSID", CLASSES, entry->progid);
-    entry->is_whole = entry->is_whole && GetFileAttributesW(entry->server) != INVALID_FILE_ATTRIBUTES &&
+    entry->is_whole = entry->is_whole &&
+                      GetFileAttributesW(entry->server) != INVALID_FILE_ATTRIBUTES &&
                       !RegOpenKeyExW(root, progid, 0, KEY_READ, &key);
     if (entry->is_whole)
         RegCloseKey(key);
 }
 
-/* Whether a class of the other bits is in truth the one of these: a DLL has programs of one kind. Wine has one list of a
-   user's classes for both. */
+/* Whether a class of the other bits is in truth the one of these: a DLL has programs of one kind.
+   Wine has one list of a user's classes for both. */
 static BOOL is_same_class(HKEY root, const WCHAR *guid, const Entry *other)
 {
     WCHAR path[300], server[MAX_PATH];
@@ -163,8 +166,8 @@ static BOOL is_same_class(HKEY root, const WCHAR *guid, const Entry *other)
     return server[0] && !_wcsicmp(server, other->server);
 }
 
-static int each_class_of(int bits, BOOL all_users, const WCHAR *name, void call(const Entry *entry, void *with),
-                         void *with)
+static int each_class_of(int bits, BOOL all_users, const WCHAR *name,
+                         void call(const Entry *entry, void *with), void *with)
 {
     HKEY root = all_users ? HKEY_LOCAL_MACHINE : HKEY_CURRENT_USER, classes, own;
     REGSAM access = KEY_READ | view_of(bits);
@@ -188,7 +191,8 @@ static int each_class_of(int bits, BOOL all_users, const WCHAR *name, void call(
         entry.bits = bits;
         read_entry(root, &entry);
         if (!is_same_class(root, guid, &entry) &&
-            (!name || (!_wcsnicmp(entry.progid, name, wcslen(name)) && entry.progid[wcslen(name)] == L'.'))) {
+            (!name || (!_wcsnicmp(entry.progid, name, wcslen(name)) &&
+                       entry.progid[wcslen(name)] == L'.'))) {
             call(&entry, with);
             count++;
         }
@@ -198,7 +202,8 @@ static int each_class_of(int bits, BOOL all_users, const WCHAR *name, void call(
     return count;
 }
 
-int each_class(BOOL all_users, const WCHAR *name, void call(const Entry *entry, void *with), void *with)
+int each_class(BOOL all_users, const WCHAR *name, void call(const Entry *entry, void *with),
+               void *with)
 {
     int count = each_class_of(BITS, all_users, name, call, with);
 
@@ -207,15 +212,16 @@ int each_class(BOOL all_users, const WCHAR *name, void call(const Entry *entry, 
 
 static void print_entry(const Entry *entry, void *with)
 {
-    say(L"%ls  %ls:%ls  %ls, %d bits%ls  %ls", entry->progid[0] ? entry->progid : L"(no name)", entry->host,
-        entry->port, *(BOOL *)with ? L"all users" : L"user", entry->bits,
+    say(L"%ls  %ls:%ls  %ls, %d bits%ls  %ls", entry->progid[0] ? entry->progid : L"(no name)",
+        entry->host, entry->port, *(BOOL *)with ? L"all users" : L"user", entry->bits,
         entry->is_whole ? L"" : L", damaged: repair it", entry->server);
 }
 
 static int list(void)
 {
     BOOL all_users = FALSE, machine = TRUE;
-    int count = each_class(FALSE, NULL, print_entry, &all_users) + each_class(TRUE, NULL, print_entry, &machine);
+    int count = each_class(FALSE, NULL, print_entry, &all_users) +
+                each_class(TRUE, NULL, print_entry, &machine);
 
     if (!count)
         say(L"nothing is registered");
@@ -226,6 +232,7 @@ static int list(void)
 
 /* The numbers of a class that a registration sets, and that a repair keeps. */
 enum { SCRIPT, TEXTS, TIMEOUT, IDLE, NUMBERS };
+
 static const WCHAR *const NUMBER_NAMES[NUMBERS] = {L"Script", L"Texts", L"Timeout", L"Idle"};
 
 typedef struct Settings {
@@ -255,10 +262,12 @@ static void set_entry(const Entry *entry, void *with)
     }
     for (i = 0; i < NUMBERS; i++)
         if (settings->is_given[i] &&
-            RegSetValueExW(key, NUMBER_NAMES[i], 0, REG_DWORD, (const BYTE *)&settings->numbers[i], sizeof(DWORD)))
+            RegSetValueExW(key, NUMBER_NAMES[i], 0, REG_DWORD, (const BYTE *)&settings->numbers[i],
+                           sizeof(DWORD)))
             change->has_failed = TRUE;
-    if (settings->watch[0] && RegSetValueExW(key, L"Watch", 0, REG_SZ, (const BYTE *)settings->watch,
-                                             (DWORD)((wcslen(settings->watch) + 1) * sizeof *settings->watch)))
+    if (settings->watch[0] &&
+        RegSetValueExW(key, L"Watch", 0, REG_SZ, (const BYTE *)settings->watch,
+                       (DWORD)((wcslen(settings->watch) + 1) * sizeof *settings->watch)))
         change->has_failed = TRUE;
     RegCloseKey(key);
 }
@@ -300,12 +309,14 @@ static void keep_settings(const Entry *entry, void *with)
     if (!entry->host[0] || !entry->port[0])
         return;
     if (!kept->address[0]) /* (classes of this program's bits come first) */
-        swprintf(kept->address, MOST, wcschr(entry->host, L':') ? L"[%ls]:%ls" : L"%ls:%ls", entry->host, entry->port);
+        swprintf(kept->address, MOST, wcschr(entry->host, L':') ? L"[%ls]:%ls" : L"%ls:%ls",
+                 entry->host, entry->port);
     for (i = 0; i < NUMBERS; i++) {
         size = sizeof(DWORD);
         if (!kept->settings.is_given[i])
-            kept->settings.is_given[i] = read_value(entry, L"Oaut", NUMBER_NAMES[i], RRF_RT_REG_DWORD,
-                                                    &kept->settings.numbers[i], &size);
+            kept->settings.is_given[i] = read_value(entry, L"Oaut", NUMBER_NAMES[i],
+                                                    RRF_RT_REG_DWORD, &kept->settings.numbers[i],
+                                                    &size);
     }
     if (!kept->settings.watch[0])
         text_of(entry, L"Oaut", L"Watch", kept->settings.watch, ARRAYSIZE(kept->settings.watch));
@@ -370,8 +381,8 @@ static int remove_all(void)
     return status;
 }
 
-/* A command line of words, for programs of one kind of bits; none of the words has a quotation mark that counts. FALSE if
-   it is too long. */
+/* A command line of words, for programs of one kind of bits; none of the words has a quotation mark
+   that counts. FALSE if it is too long. */
 static BOOL join(const WCHAR *path, int count, WCHAR **words, WCHAR line[4 * MOST])
 {
     size_t length = wcslen(path) + wcslen(THESE_BITS) + 4;
@@ -458,8 +469,8 @@ static int run_other_bits(int count, WCHAR **words)
         how.dwFlags = STARTF_USESTDHANDLES;
         how.hStdOutput = how.hStdError = to;
     }
-    is_made = CreateProcessW(path, command, NULL, NULL, TRUE, lines_go_to ? CREATE_NO_WINDOW : 0, NULL, NULL, &how,
-                             &made);
+    is_made = CreateProcessW(path, command, NULL, NULL, TRUE, lines_go_to ? CREATE_NO_WINDOW : 0,
+                             NULL, NULL, &how, &made);
     if (to)
         CloseHandle(to);
     if (is_made) {
@@ -469,7 +480,8 @@ static int run_other_bits(int count, WCHAR **words)
         CloseHandle(made.hProcess);
         CloseHandle(made.hThread);
     } else { /* (a Windows without programs of 32 bits) */
-        fail(L"%ls does not run here, so programs of %d bits are left as they were", path, OTHER_BITS);
+        fail(L"%ls does not run here, so programs of %d bits are left as they were", path,
+             OTHER_BITS);
     }
     if (from)
         CloseHandle(from);
@@ -493,13 +505,15 @@ static BOOL has_shared_classes(BOOL all_users, const WCHAR *name)
         return FALSE;
     other.key = key;
     other.bits = OTHER_BITS;
-    is_shared = text_of(&other, L"InprocServer32", NULL, server, MAX_PATH) && !_wcsicmp(server, dll_path);
+    is_shared = text_of(&other, L"InprocServer32", NULL, server, MAX_PATH) &&
+                !_wcsicmp(server, dll_path);
     RegCloseKey(key);
     return is_shared;
 }
 
 /* Reads the options; the other words are `given`. Their number, or 0 if an option is none. */
-static int read_words(int count, WCHAR **words, Settings *settings, BOOL *all, const WCHAR *given[3])
+static int read_words(int count, WCHAR **words, Settings *settings, BOOL *all,
+                      const WCHAR *given[3])
 {
     int i, found = 0;
 
@@ -517,8 +531,8 @@ static int read_words(int count, WCHAR **words, Settings *settings, BOOL *all, c
                    words[i + 1][0] <= L'2' && !words[i + 1][1]) {
             settings->is_given[SCRIPT] = TRUE;
             settings->numbers[SCRIPT] = (DWORD)(words[++i][0] - L'0');
-        } else if (!wcscmp(words[i], L"--watch") && i + 1 < count && words[i + 1][0] && words[i + 1][0] != L'-' &&
-                   wcslen(words[i + 1]) < ARRAYSIZE(settings->watch)) {
+        } else if (!wcscmp(words[i], L"--watch") && i + 1 < count && words[i + 1][0] &&
+                   words[i + 1][0] != L'-' && wcslen(words[i + 1]) < ARRAYSIZE(settings->watch)) {
             wcscpy(settings->watch, words[++i]);
         } else if (words[i][0] == L'-' || found == 3) {
             return 0;
@@ -560,7 +574,8 @@ int run_command(int count, WCHAR **words)
     if (settings.these_bits || (status && !is_removal))
         return status;
     if (!is_removal && has_shared_classes(settings.all_users, given[1])) {
-        say(L"programs of %d bits are left out: this system has one list of a user's classes; --all-users is for both",
+        say(L"programs of %d bits are left out: this system has one list of a user's classes; "
+            L"--all-users is for both",
             OTHER_BITS);
         return status;
     }

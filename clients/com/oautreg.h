@@ -12,9 +12,10 @@ typedef struct Entry {
     BOOL is_whole;
 } Entry;
 
-/* Calls for each class of this bridge, of the user or of all, for programs of this one's bits and then for those of the
-   other; `name` is NULL for every name. The count of them. */
-int each_class(BOOL all_users, const WCHAR *name, void call(const Entry *entry, void *with), void *with);
+/* Calls for each class of this bridge, of the user or of all, for programs of this one's bits and
+   then for those of the other; `name` is NULL for every name. The count of them. */
+int each_class(BOOL all_users, const WCHAR *name, void call(const Entry *entry, void *with),
+               void *with);
 
 /* Runs a command, without the program's own name in front; 0 or 1. */
 int run_command(int count, WCHAR **words);

@@ -1,7 +1,7 @@
 /* IDispatch of a store's objects.
 
-   An object here is a number of the server's, and its Release ends this proxy alone: a store's objects have no
-   owner and outlive the scripts that made them. The hub's Release gives one up. */
+   An object here is a number of the server's, and its Release ends this proxy alone: a store's
+   objects have no owner and outlive the scripts that made them. The hub's Release gives one up. */
 #include "objects.h"
 #include "information.h"
 #include "refusals.h"
@@ -15,8 +15,10 @@
 
 LONG dll_references;
 
-/* By this an object of this DLL is known among all others: it is answered by objects of a store only. */
-static const GUID IID_OautObject = {0x6f617574, 0x0001, 0x4c6f, {0x9a, 0x51, 0x62, 0x72, 0x69, 0x64, 0x67, 0x65}};
+/* By this an object of this DLL is known among all others: it is answered by objects of a store
+ * only. */
+static const GUID IID_OautObject = {
+    0x6f617574, 0x0001, 0x4c6f, {0x9a, 0x51, 0x62, 0x72, 0x69, 0x64, 0x67, 0x65}};
 
 struct object;
 
@@ -75,16 +77,26 @@ const Target *target_of(IUnknown *some)
 static BOOL is_of_system(REFIID iid)
 {
     static const GUID known[] = {
-        {0xA6EF9860, 0xC720, 0x11D0, {0x93, 0x37, 0x00, 0xA0, 0xC9, 0x0D, 0xCA, 0xA9}}, /* IDispatchEx */
-        {0xA6BC3AC0, 0xDBAA, 0x11CE, {0x9D, 0xE3, 0x00, 0xAA, 0x00, 0x4B, 0xB8, 0x51}}, /* IProvideClassInfo2 */
-        {0xDF0B3D60, 0x548F, 0x101B, {0x8E, 0x65, 0x08, 0x00, 0x2B, 0x2B, 0xD1, 0x19}}, /* ISupportErrorInfo */
-        {0xB196B284, 0xBAB4, 0x101A, {0xB6, 0x9C, 0x00, 0xAA, 0x00, 0x34, 0x1D, 0x07}}, /* IConnectionPointContainer */
-        {0xCB5BDC81, 0x93C1, 0x11CF, {0x8F, 0x20, 0x00, 0x80, 0x5F, 0x2C, 0xD0, 0x64}}, /* IObjectSafety */
-        {0xFC4801A3, 0x2BA9, 0x11CF, {0xA2, 0x29, 0x00, 0xAA, 0x00, 0x3D, 0x73, 0x52}}, /* IObjectWithSite */
-        {0xECC8691B, 0xC1DB, 0x4DC0, {0x85, 0x5E, 0x65, 0xF6, 0xC5, 0x51, 0xAF, 0x49}}, /* INoMarshal */
-        {0x94EA2B94, 0xE9CC, 0x49E0, {0xC0, 0xFF, 0xEE, 0x64, 0xCA, 0x8F, 0x5B, 0x90}}, /* IAgileObject */
-        {0xC3FCC19E, 0xA970, 0x11D2, {0x8B, 0x5A, 0x00, 0xA0, 0xC9, 0xB7, 0xC9, 0xC4}}, /* IManagedObject */
-        {0x1C733A30, 0x2A1C, 0x11CE, {0xAD, 0xE5, 0x00, 0xAA, 0x00, 0x44, 0x77, 0x3D}}, /* ICallFactory */
+        /* IDispatchEx */
+        {0xA6EF9860, 0xC720, 0x11D0, {0x93, 0x37, 0x00, 0xA0, 0xC9, 0x0D, 0xCA, 0xA9}},
+        /* IProvideClassInfo2 */
+        {0xA6BC3AC0, 0xDBAA, 0x11CE, {0x9D, 0xE3, 0x00, 0xAA, 0x00, 0x4B, 0xB8, 0x51}},
+        /* ISupportErrorInfo */
+        {0xDF0B3D60, 0x548F, 0x101B, {0x8E, 0x65, 0x08, 0x00, 0x2B, 0x2B, 0xD1, 0x19}},
+        /* IConnectionPointContainer */
+        {0xB196B284, 0xBAB4, 0x101A, {0xB6, 0x9C, 0x00, 0xAA, 0x00, 0x34, 0x1D, 0x07}},
+        /* IObjectSafety */
+        {0xCB5BDC81, 0x93C1, 0x11CF, {0x8F, 0x20, 0x00, 0x80, 0x5F, 0x2C, 0xD0, 0x64}},
+        /* IObjectWithSite */
+        {0xFC4801A3, 0x2BA9, 0x11CF, {0xA2, 0x29, 0x00, 0xAA, 0x00, 0x3D, 0x73, 0x52}},
+        /* INoMarshal */
+        {0xECC8691B, 0xC1DB, 0x4DC0, {0x85, 0x5E, 0x65, 0xF6, 0xC5, 0x51, 0xAF, 0x49}},
+        /* IAgileObject */
+        {0x94EA2B94, 0xE9CC, 0x49E0, {0xC0, 0xFF, 0xEE, 0x64, 0xCA, 0x8F, 0x5B, 0x90}},
+        /* IManagedObject */
+        {0xC3FCC19E, 0xA970, 0x11D2, {0x8B, 0x5A, 0x00, 0xA0, 0xC9, 0xB7, 0xC9, 0xC4}},
+        /* ICallFactory */
+        {0x1C733A30, 0x2A1C, 0x11CE, {0xAD, 0xE5, 0x00, 0xAA, 0x00, 0x44, 0x77, 0x3D}},
     };
     static const BYTE ole[8] = {0xC0, 0, 0, 0, 0, 0, 0, 0x46};
     size_t i;
@@ -100,7 +112,8 @@ HRESULT has_interface(const Target *target, REFIID iid)
     const Library *library;
     HRESULT result;
 
-    if (IsEqualGUID(iid, &IID_IUnknown) || IsEqualGUID(iid, &IID_IDispatch) || IsEqualGUID(iid, &IID_IProvideClassInfo))
+    if (IsEqualGUID(iid, &IID_IUnknown) || IsEqualGUID(iid, &IID_IDispatch) ||
+        IsEqualGUID(iid, &IID_IProvideClassInfo))
         return S_OK;
     if (is_of_system(iid))
         return E_NOINTERFACE;
@@ -109,7 +122,8 @@ HRESULT has_interface(const Target *target, REFIID iid)
     return find_interface(library, &target->class, iid) ? S_OK : E_NOINTERFACE;
 }
 
-/* The face of an object for one of its coclass's interfaces; it is made when it is first asked for. */
+/* The face of an object for one of its coclass's interfaces; it is made when it is first asked
+ * for. */
 static HRESULT find_face(Object *object, REFIID iid, Face **found)
 {
     const Target *target = &object->face.target;
@@ -122,14 +136,15 @@ static HRESULT find_face(Object *object, REFIID iid, Face **found)
             *found = face;
             return S_OK;
         }
-    /* an object of a second interface has only that: COM's own stubs of dispinterfaces call IDispatch, so in another
-       apartment another interface would be taken for it */
+    /* an object of a second interface has only that: COM's own stubs of dispinterfaces call
+       IDispatch, so in another apartment another interface would be taken for it */
     if (!IsEqualGUID(&target->iid, &GUID_NULL))
         return E_NOINTERFACE;
     if (FAILED(result = has_interface(target, iid)))
         return result;
     library = library_told(target->connection);
-    if (find_interface(library, &target->class, iid) == find_interface(library, &target->class, &GUID_NULL)) {
+    if (find_interface(library, &target->class, iid) ==
+        find_interface(library, &target->class, &GUID_NULL)) {
         *found = &object->face;
         return S_OK;
     }
@@ -152,7 +167,8 @@ static HRESULT STDMETHODCALLTYPE face_query(IDispatch *self, REFIID iid, void **
     HRESULT result = S_OK;
 
     *found = NULL;
-    if (IsEqualGUID(iid, &IID_IUnknown) || IsEqualGUID(iid, &IID_IDispatch) || IsEqualGUID(iid, &IID_OautObject)) {
+    if (IsEqualGUID(iid, &IID_IUnknown) || IsEqualGUID(iid, &IID_IDispatch) ||
+        IsEqualGUID(iid, &IID_OautObject)) {
         *found = &object->face;
     } else if (IsEqualGUID(iid, &IID_IProvideClassInfo)) {
         *found = &object->information;
@@ -195,7 +211,8 @@ static ULONG STDMETHODCALLTYPE face_release(IDispatch *self)
 
 /* ---- type information */
 
-static HRESULT STDMETHODCALLTYPE face_type(IDispatch *self, UINT index, LCID locale, ITypeInfo **found)
+static HRESULT STDMETHODCALLTYPE face_type(IDispatch *self, UINT index, LCID locale,
+                                           ITypeInfo **found)
 {
     const Target *target = &((Face *)self)->target;
     HRESULT result;
@@ -221,7 +238,8 @@ static Object *of_information(IProvideClassInfo *self)
     return (Object *)((BYTE *)self - offsetof(Object, information));
 }
 
-static HRESULT STDMETHODCALLTYPE information_query(IProvideClassInfo *self, REFIID iid, void **found)
+static HRESULT STDMETHODCALLTYPE information_query(IProvideClassInfo *self, REFIID iid,
+                                                   void **found)
 {
     return face_query((IDispatch *)of_information(self), iid, found);
 }
@@ -256,8 +274,8 @@ static const IProvideClassInfoVtbl INFORMATION_CALLS = {
 
 /* ---- members */
 
-static HRESULT STDMETHODCALLTYPE face_names(IDispatch *self, REFIID riid, LPOLESTR *names, UINT count, LCID locale,
-                                            DISPID *ids)
+static HRESULT STDMETHODCALLTYPE face_names(IDispatch *self, REFIID riid, LPOLESTR *names,
+                                            UINT count, LCID locale, DISPID *ids)
 {
     const Target *target = &((Face *)self)->target;
     HRESULT result;
@@ -265,10 +283,10 @@ static HRESULT STDMETHODCALLTYPE face_names(IDispatch *self, REFIID riid, LPOLES
     if (!count || !names || !ids)
         return E_INVALIDARG;
     connection_enter(target->connection);
-    result = names_to_ids(target->connection, target->generation, target->number, &target->class, &target->iid, riid,
-                          locale, (const WCHAR *const *)names, count, ids);
-    if (FAILED(result) && result != DISP_E_UNKNOWNNAME && count == 1 && IsEqualGUID(riid, &IID_NULL) &&
-        defer_name(target->connection, names[0], ids)) {
+    result = names_to_ids(target->connection, target->generation, target->number, &target->class,
+                          &target->iid, riid, locale, (const WCHAR *const *)names, count, ids);
+    if (FAILED(result) && result != DISP_E_UNKNOWNNAME && count == 1 &&
+        IsEqualGUID(riid, &IID_NULL) && defer_name(target->connection, names[0], ids)) {
         if (result == OAUT_E_NO_REPLY)
             hang_up(target->connection);
         result = S_OK;
@@ -294,8 +312,8 @@ static HRESULT find_deferred(Call *call)
     type = find_interface(library, &target->class, &target->iid);
     if (type && find_member(type, call->id, &member))
         return S_OK;
-    result = names_to_ids(target->connection, target->generation, target->number, &target->class, &target->iid,
-                          &IID_NULL, LOCALE_NEUTRAL, &name, 1, &id);
+    result = names_to_ids(target->connection, target->generation, target->number, &target->class,
+                          &target->iid, &IID_NULL, LOCALE_NEUTRAL, &name, 1, &id);
     if (result == S_OK)
         call->id = id;
     return result;
@@ -315,7 +333,8 @@ void name_class(Connection *connection, REFGUID class, WCHAR *text, size_t room)
 }
 
 /* What the library says of the argument at fault. */
-static void name_argument(const Call *call, const Member *member, Refusal *refusal, WCHAR name[MAX_NAME + 1])
+static void name_argument(const Call *call, const Member *member, Refusal *refusal,
+                          WCHAR name[MAX_NAME + 1])
 {
     UINT32 place = parameter_of(call, call->argument);
     Parameter parameter;
@@ -333,8 +352,8 @@ static void name_argument(const Call *call, const Member *member, Refusal *refus
     }
 }
 
-/* Whether a host asks by a get without arguments whether the member wants some: those of Python do, and look at the code
-   itself. VBScript and VBA say METHOD too. */
+/* Whether a host asks by a get without arguments whether the member wants some: those of Python do,
+   and look at the code itself. VBScript and VBA say METHOD too. */
 static BOOL is_probe(const Call *call, HRESULT code)
 {
     return call->flags == DISPATCH_PROPERTYGET && !call->given->cArgs &&
@@ -347,8 +366,9 @@ static HRESULT refuse(const Call *call, HRESULT code, EXCEPINFO *told)
     WCHAR source[80], object[96], member_name[MAX_NAME + 1], argument[MAX_NAME + 1];
     const Target *target = call->target;
     BOOL has_argument = call->argument < call->given->cArgs;
-    Refusal refusal = {code, source, object, NULL, NULL, VT_EMPTY, NULL, target->for_scripts, target->connection,
-                       NULL, 0};
+    Refusal refusal = {
+        code, source, object, NULL, NULL, VT_EMPTY, NULL, target->for_scripts, target->connection,
+        NULL, 0};
     const Library *library;
     const Item *type;
     Member member;
@@ -356,7 +376,8 @@ static HRESULT refuse(const Call *call, HRESULT code, EXCEPINFO *told)
     if (!told || is_probe(call, code))
         return code;
     if (is_connected(target->connection))
-        library_of(target->connection, &library); /* for the names; without it some are missing */
+        /* for the names; without it some are missing */
+        library_of(target->connection, &library);
     name_class(target->connection, &target->class, source, ARRAYSIZE(source));
     swprintf(object, ARRAYSIZE(object), L"%ls %lu", source, (unsigned long)target->number);
     /* (in another library the DISPID may be another member's) */
@@ -373,8 +394,9 @@ static HRESULT refuse(const Call *call, HRESULT code, EXCEPINFO *told)
     return tell_refusal(&refusal, target->for_scripts, told);
 }
 
-static HRESULT STDMETHODCALLTYPE face_invoke(IDispatch *self, DISPID id, REFIID riid, LCID locale, WORD flags,
-                                             DISPPARAMS *given, VARIANT *result, EXCEPINFO *exception, UINT *argument)
+static HRESULT STDMETHODCALLTYPE face_invoke(IDispatch *self, DISPID id, REFIID riid, LCID locale,
+                                             WORD flags, DISPPARAMS *given, VARIANT *result,
+                                             EXCEPINFO *exception, UINT *argument)
 {
     static DISPPARAMS nothing;
     Call call = call_of(&((Face *)self)->target, id, given);

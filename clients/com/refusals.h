@@ -15,12 +15,13 @@ typedef struct Refusal {
     const VARIANT *given;  /* it */
     int how;               /* how the host has values (values.h) */
     const Connection *connection;
-    const WCHAR *watch; /* the port of the watch that was not reached, or NULL: the connection was not */
-    int cause;          /* and why not, as Connection has it */
+    /* the port of the watch that was not reached, or NULL: the connection was not */
+    const WCHAR *watch;
+    int cause; /* and why not, as Connection has it */
 } Refusal;
 
-/* The code by which VBScript, JScript and VBA have a number of their own for one of the server's: 0x800A0000 and that
-   number. A code that they have none for stays. */
+/* The code by which VBScript, JScript and VBA have a number of their own for one of the server's:
+   0x800A0000 and that number. A code that they have none for stays. */
 HRESULT code_for_scripts(HRESULT code);
 
 /* Fills the host's EXCEPINFO, and returns DISP_E_EXCEPTION. */

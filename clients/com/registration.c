@@ -1,10 +1,11 @@
 /* The DLL's entry points, and what the registry holds for them.
 
-   A class that this DLL serves is HKCR\CLSID\{GUID} with the DLL as its InprocServer32 and a key Oaut, which has
-   Host and Port and may have Script, Store, Timeout, Idle, Watch and TypeLib (docs/guide/com.md). regsvr32 /n /i:NAME@HOST:PORT
-   asks the server for its coclasses and enters NAME.Coclass for each, and NAME.Store for the server itself;
-   /i:user:NAME@HOST:PORT enters them for the user alone. A class belongs to the name that its ProgID begins with, and
-   no other name enters it or removes it. */
+   A class that this DLL serves is HKCR\CLSID\{GUID} with the DLL as its InprocServer32 and a key
+   Oaut, which has Host and Port and may have Script, Store, Timeout, Idle, Watch and TypeLib
+   (docs/guide/com.md). regsvr32 /n /i:NAME@HOST:PORT asks the server for its coclasses and enters
+   NAME.Coclass for each, and NAME.Store for the server itself; /i:user:NAME@HOST:PORT enters them
+   for the user alone. A class belongs to the name that its ProgID begins with, and no other name
+   enters it or removes it. */
 #include "classes.h"
 #include "hub.h"
 #include "information.h"
@@ -21,7 +22,8 @@
 
 /* Windows 7 and mingw's libraries have these, its headers do not. */
 HRESULT WINAPI RegisterTypeLibForUser(ITypeLib *library, OLECHAR *file, OLECHAR *help);
-HRESULT WINAPI UnRegisterTypeLibForUser(REFGUID library, WORD major, WORD minor, LCID locale, SYSKIND system);
+HRESULT WINAPI UnRegisterTypeLibForUser(REFGUID library, WORD major, WORD minor, LCID locale,
+                                        SYSKIND system);
 
 static HINSTANCE this_dll;
 
@@ -41,7 +43,8 @@ static DWORD read_number_value(HKEY key, const WCHAR *name, DWORD otherwise)
 {
     DWORD size = sizeof(DWORD), type, number;
 
-    if (RegQueryValueExW(key, name, NULL, &type, (BYTE *)&number, &size) || type != REG_DWORD || size != sizeof number)
+    if (RegQueryValueExW(key, name, NULL, &type, (BYTE *)&number, &size) || type != REG_DWORD ||
+        size != sizeof number)
         return otherwise;
     return number;
 }
@@ -79,13 +82,18 @@ __declspec(dllexport) HRESULT WINAPI DllGetClassObject(REFCLSID guid, REFIID iid
     whole = read_text_value(key, L"Host", class.settings.host, ARRAYSIZE(class.settings.host)) &&
             read_text_value(key, L"Port", class.settings.port, ARRAYSIZE(class.settings.port));
     read_text_value(key, L"Watch", class.settings.watch, ARRAYSIZE(class.settings.watch));
-    read_text_value(key, L"TypeLib", class.settings.type_library, ARRAYSIZE(class.settings.type_library));
+    read_text_value(key, L"TypeLib", class.settings.type_library,
+                    ARRAYSIZE(class.settings.type_library));
     class.settings.timeout = read_number_value(key, L"Timeout", DEFAULT_TIMEOUT);
     class.settings.idle = read_number_value(key, L"Idle", DEFAULT_IDLE);
     switch (read_number_value(key, L"Script", 0)) {
-    case 0: break;
-    case 2: class.for_scripts = FOR_SCRIPTS | FOR_JSCRIPT | WITH_TEXTS; break;
-    default: class.for_scripts = FOR_SCRIPTS | (read_number_value(key, L"Texts", 0) ? WITH_TEXTS : 0);
+    case 0:
+        break;
+    case 2:
+        class.for_scripts = FOR_SCRIPTS | FOR_JSCRIPT | WITH_TEXTS;
+        break;
+    default:
+        class.for_scripts = FOR_SCRIPTS | (read_number_value(key, L"Texts", 0) ? WITH_TEXTS : 0);
     }
     class.is_hub = read_number_value(key, L"Store", 0) != 0;
     RegCloseKey(key);
@@ -110,7 +118,8 @@ static BOOL is_name(const WCHAR *text)
     return at > text;
 }
 
-/* NAME@HOST:PORT or NAME@oaut://HOST[:PORT]; HOST is in brackets if it is an IPv6 address. There is no TLS here. */
+/* NAME@HOST:PORT or NAME@oaut://HOST[:PORT]; HOST is in brackets if it is an IPv6 address. There is
+ * no TLS here. */
 static BOOL parse_line(const WCHAR *line, WCHAR name[MAX_LIBRARY + 1], Settings *settings)
 {
     static const WCHAR scheme[] = L"oaut://", default_port[] = L":8765";
@@ -134,7 +143,8 @@ static BOOL parse_line(const WCHAR *line, WCHAR name[MAX_LIBRARY + 1], Settings 
         host++;
         length -= 2;
     }
-    if (!length || length >= ARRAYSIZE(settings->host) || !colon[1] || wcslen(colon + 1) >= ARRAYSIZE(settings->port))
+    if (!length || length >= ARRAYSIZE(settings->host) || !colon[1] ||
+        wcslen(colon + 1) >= ARRAYSIZE(settings->port))
         return FALSE;
     memset(settings, 0, sizeof *settings);
     memcpy(name, line, (size_t)(at - line) * sizeof *name);
@@ -153,16 +163,19 @@ typedef struct Place {
     BOOL is_user;
 } Place;
 
-/* A key of a place as programs of some bits have it. Such keys are opened from the machine's or the user's root. */
+/* A key of a place as programs of some bits have it. Such keys are opened from the machine's or the
+ * user's root. */
 static LSTATUS open_for_bits(const Place *place, const WCHAR *path, REGSAM access, HKEY *key)
 {
     WCHAR whole[256];
 
     swprintf(whole, ARRAYSIZE(whole), L"%ls\\%ls", CLASSES, path);
-    return RegOpenKeyExW(place->is_user ? HKEY_CURRENT_USER : HKEY_LOCAL_MACHINE, whole, 0, access, key);
+    return RegOpenKeyExW(place->is_user ? HKEY_CURRENT_USER : HKEY_LOCAL_MACHINE, whole, 0, access,
+                         key);
 }
 
-static BOOL set_text_value(const Place *place, const WCHAR *path, const WCHAR *name, const WCHAR *text)
+static BOOL set_text_value(const Place *place, const WCHAR *path, const WCHAR *name,
+                           const WCHAR *text)
 {
     DWORD size = (DWORD)((wcslen(text) + 1) * sizeof *text);
 
@@ -185,8 +198,8 @@ static BOOL has_key(HKEY root, const WCHAR *path)
 }
 
 /* A text below a class. */
-static BOOL read_of_class(const Place *place, REFGUID guid, const WCHAR *below, const WCHAR *name, WCHAR *text,
-                          DWORD units)
+static BOOL read_of_class(const Place *place, REFGUID guid, const WCHAR *below, const WCHAR *name,
+                          WCHAR *text, DWORD units)
 {
     WCHAR path[CLASS_PATH];
     BOOL found;
@@ -219,7 +232,8 @@ static BOOL is_class_of_any_bits(const Place *place, REFGUID guid)
     return FALSE;
 }
 
-/* Whether a class that the place has no own one of is another program's. A user's names may be of classes of the machine. */
+/* Whether a class that the place has no own one of is another program's. A user's names may be of
+ * classes of the machine. */
 static BOOL is_class_of_another(const Place *place, REFGUID guid)
 {
     static const Place machine = {NULL, FALSE};
@@ -227,7 +241,8 @@ static BOOL is_class_of_another(const Place *place, REFGUID guid)
 
     class_path(guid, L"\\Oaut", path);
     return is_class_of_any_bits(place, guid) ||
-           (place->is_user && is_class_of_any_bits(&machine, guid) && !has_key(HKEY_CLASSES_ROOT, path));
+           (place->is_user && is_class_of_any_bits(&machine, guid) &&
+            !has_key(HKEY_CLASSES_ROOT, path));
 }
 
 #define OTHER_BITS (sizeof(void *) == 8 ? KEY_WOW64_32KEY : KEY_WOW64_64KEY)
@@ -271,8 +286,8 @@ static BOOL is_bare_progid(HKEY root, const WCHAR *progid)
     return has_only(root, progid, 1);
 }
 
-/* The class of a ProgID, if it is one of this DLL's, or one that is gone and was of this DLL's form; S_FALSE if there is
-   no such ProgID, and SELFREG_E_CLASS if it is another program's. */
+/* The class of a ProgID, if it is one of this DLL's, or one that is gone and was of this DLL's
+   form; S_FALSE if there is no such ProgID, and SELFREG_E_CLASS if it is another program's. */
 static HRESULT class_of_progid(const Place *place, const WCHAR *progid, GUID *guid)
 {
     WCHAR path[PROGID + 8], text[40];
@@ -284,20 +299,24 @@ static HRESULT class_of_progid(const Place *place, const WCHAR *progid, GUID *gu
         return S_FALSE;
     if (RegOpenKeyExW(place->root, path, 0, KEY_READ, &key))
         return SELFREG_E_CLASS;
-    found = read_text_value(key, NULL, text, ARRAYSIZE(text)) && SUCCEEDED(CLSIDFromString(text, guid));
+    found = read_text_value(key, NULL, text, ARRAYSIZE(text)) &&
+            SUCCEEDED(CLSIDFromString(text, guid));
     RegCloseKey(key);
     if (!found)
         return SELFREG_E_CLASS;
     class_path(guid, L"\\Oaut", path);
     if (has_key(place->root, path) || is_borne_by_other_bits(place, guid, progid))
         return S_OK;
-    return !is_class_of_another(place, guid) && is_bare_progid(place->root, progid) ? S_OK : SELFREG_E_CLASS;
+    return !is_class_of_another(place, guid) && is_bare_progid(place->root, progid)
+               ? S_OK
+               : SELFREG_E_CLASS;
 }
 
 /* ---- the type library, which is registered with the classes that have it */
 
 /* Which one a class names. */
-static BOOL library_of_class(const Place *place, REFGUID guid, GUID *library, WORD *major, WORD *minor)
+static BOOL library_of_class(const Place *place, REFGUID guid, GUID *library, WORD *major,
+                             WORD *minor)
 {
     WCHAR text[40], *behind;
     unsigned long one, other;
@@ -329,7 +348,8 @@ static BOOL is_registered_elsewhere(REFGUID library, WORD major, WORD minor, con
 #define SYSTEM (sizeof(void *) == 8 ? SYS_WIN64 : SYS_WIN32)
 
 /* Unregisters a type library, if it is registered with a file. */
-static void remove_library(const Place *place, REFGUID library, WORD major, WORD minor, const WCHAR *file)
+static void remove_library(const Place *place, REFGUID library, WORD major, WORD minor,
+                           const WCHAR *file)
 {
     if (is_registered_elsewhere(library, major, minor, file))
         return;
@@ -362,14 +382,16 @@ typedef struct Types {
     GUID library;
     WORD major, minor;
     BOOL is_entered;
-    BOOL is_written; /* by this DLL, from the server's description; else it was beside the DLL */
+    /* by this DLL, from the server's description; else it was beside the DLL */
+    BOOL is_written;
 } Types;
 
 #define FOLDER L"\\oaut"
 
-/* The place of a type library: beside the DLL for all users, otherwise in a folder of the user. `folder` is the latter, or empty. */
-static BOOL find_written_file(const Place *place, const WCHAR *dll, const WCHAR *name, WCHAR file[MAX_PATH],
-                              WCHAR folder[MAX_PATH])
+/* The place of a type library: beside the DLL for all users, otherwise in a folder of the user.
+ * `folder` is the latter, or empty. */
+static BOOL find_written_file(const Place *place, const WCHAR *dll, const WCHAR *name,
+                              WCHAR file[MAX_PATH], WCHAR folder[MAX_PATH])
 {
     const WCHAR *slash = wcsrchr(dll, L'\\');
     size_t length = slash ? (size_t)(slash - dll) : 0;
@@ -381,8 +403,8 @@ static BOOL find_written_file(const Place *place, const WCHAR *dll, const WCHAR 
         wcscat(folder, FOLDER);
     if ((folder[0] ? wcslen(folder) : length) + wcslen(name) + 9 > MAX_PATH)
         return FALSE;
-    swprintf(file, MAX_PATH, L"%.*ls\\%ls-%d.tlb", folder[0] ? MAX_PATH : (int)length, folder[0] ? folder : dll, name,
-             (int)sizeof(void *) * 8);
+    swprintf(file, MAX_PATH, L"%.*ls\\%ls-%d.tlb", folder[0] ? MAX_PATH : (int)length,
+             folder[0] ? folder : dll, name, (int)sizeof(void *) * 8);
     return TRUE;
 }
 
@@ -401,7 +423,8 @@ static void remove_written_file(const Place *place, const WCHAR *file)
     }
 }
 
-/* Takes out the type library that a class names, and removes the file if this DLL has written it. */
+/* Takes out the type library that a class names, and removes the file if this DLL has written
+ * it. */
 static void remove_library_of(const Place *place, REFGUID class)
 {
     WCHAR file[MAX_PATH];
@@ -417,8 +440,8 @@ static void remove_library_of(const Place *place, REFGUID class)
         remove_written_file(place, file);
 }
 
-/* Writes a type library from the server's description to a file that this call makes in the same folder, which then takes
-   the other's name. */
+/* Writes a type library from the server's description to a file that this call makes in the same
+   folder, which then takes the other's name. */
 static BOOL write_file(const Library *told, REFGUID hub, const WCHAR *name, const WCHAR *file)
 {
     WCHAR folder[MAX_PATH], made[MAX_PATH], *slash;
@@ -428,16 +451,17 @@ static BOOL write_file(const Library *told, REFGUID hub, const WCHAR *name, cons
         *slash = 0;
     if (!slash || !GetTempFileNameW(folder, L"tlb", 0, made))
         return FALSE;
-    if (SUCCEEDED(write_types(told, hub, name, made)) && MoveFileExW(made, file, MOVEFILE_REPLACE_EXISTING))
+    if (SUCCEEDED(write_types(told, hub, name, made)) &&
+        MoveFileExW(made, file, MOVEFILE_REPLACE_EXISTING))
         return TRUE;
     DeleteFileW(made);
     return FALSE;
 }
 
-/* Writes the type library of a name. Another file with its name stays; then, and if the file cannot be written, the
-   classes are registered without types. */
-static void write_library(const Place *place, const WCHAR *dll, const WCHAR *name, const Library *told, REFGUID hub,
-                          Types *types)
+/* Writes the type library of a name. Another file with its name stays; then, and if the file cannot
+   be written, the classes are registered without types. */
+static void write_library(const Place *place, const WCHAR *dll, const WCHAR *name,
+                          const Library *told, REFGUID hub, Types *types)
 {
     WCHAR folder[MAX_PATH];
 
@@ -447,10 +471,13 @@ static void write_library(const Place *place, const WCHAR *dll, const WCHAR *nam
     }
     if (folder[0])
         CreateDirectoryW(folder, NULL);
-    if (GetFileAttributesW(types->file) != INVALID_FILE_ATTRIBUTES && !is_written_file(types->file)) {
-        report(L"%ls: this file is another program's, so %ls is registered without a type library", types->file, name);
+    if (GetFileAttributesW(types->file) != INVALID_FILE_ATTRIBUTES &&
+        !is_written_file(types->file)) {
+        report(L"%ls: this file is another program's, so %ls is registered without a type library",
+               types->file, name);
     } else if (!write_file(told, hub, name, types->file)) {
-        report(L"%ls: this file cannot be written, so %ls is registered without a type library", types->file, name);
+        report(L"%ls: this file cannot be written, so %ls is registered without a type library",
+               types->file, name);
     } else {
         types->is_written = TRUE;
         return;
@@ -458,7 +485,8 @@ static void write_library(const Place *place, const WCHAR *dll, const WCHAR *nam
     types->file[0] = 0;
 }
 
-/* Takes the proxy of an interface out, for programs of 64 bits or of 32: a type library is registered for both. */
+/* Takes the proxy of an interface out, for programs of 64 bits or of 32: a type library is
+ * registered for both. */
 static void remove_proxy(const Place *place, const WCHAR *path, REGSAM bits)
 {
     HKEY key;
@@ -469,8 +497,9 @@ static void remove_proxy(const Place *place, const WCHAR *path, REGSAM bits)
     RegCloseKey(key);
 }
 
-/* Takes the proxies of a coclass's interfaces out that are not its default one. The system's stub of a dispinterface calls
-   the object's IDispatch: in another apartment a second interface would be the first one, without a word. */
+/* Takes the proxies of a coclass's interfaces out that are not its default one. The system's stub
+   of a dispinterface calls the object's IDispatch: in another apartment a second interface would be
+   the first one, without a word. */
 static void remove_proxies(const Place *place, ITypeInfo *class)
 {
     WCHAR path[80], text[40];
@@ -481,7 +510,8 @@ static void remove_proxies(const Place *place, ITypeInfo *class)
     UINT i;
 
     for (i = 0; SUCCEEDED(ITypeInfo_GetRefTypeOfImplType(class, i, &reference)); i++) {
-        if (FAILED(ITypeInfo_GetImplTypeFlags(class, i, &flags)) || (flags & IMPLTYPEFLAG_FDEFAULT) ||
+        if (FAILED(ITypeInfo_GetImplTypeFlags(class, i, &flags)) ||
+            (flags & IMPLTYPEFLAG_FDEFAULT) ||
             FAILED(ITypeInfo_GetRefTypeInfo(class, reference, &type)))
             continue;
         if (SUCCEEDED(ITypeInfo_GetTypeAttr(type, &attributes))) {
@@ -509,20 +539,23 @@ static void remove_all_proxies(const Place *place, ITypeLib *library)
         }
 }
 
-/* Whether the file that a type library is registered with is one that this DLL has written, or is gone. */
+/* Whether the file that a type library is registered with is one that this DLL has written, or is
+ * gone. */
 static BOOL is_registered_as_written(const Types *types)
 {
     BOOL is_own;
     BSTR path;
 
-    if (FAILED(QueryPathOfRegTypeLib(&types->library, types->major, types->minor, LOCALE_NEUTRAL, &path)))
+    if (FAILED(QueryPathOfRegTypeLib(&types->library, types->major, types->minor, LOCALE_NEUTRAL,
+                                     &path)))
         return FALSE;
     is_own = GetFileAttributesW(path) == INVALID_FILE_ATTRIBUTES || is_written_file(path);
     SysFreeString(path);
     return is_own;
 }
 
-/* Registers the file that `types` has, unless another program has registered that type library with another one. */
+/* Registers the file that `types` has, unless another program has registered that type library with
+ * another one. */
 static HRESULT enter_types(const Place *place, Types *types)
 {
     TLIBATTR *attributes;
@@ -545,8 +578,9 @@ static HRESULT enter_types(const Place *place, Types *types)
         else
             result = RegisterTypeLib(library, types->file, NULL);
         if (FAILED(result))
-            report(result == SELFREG_E_TYPELIB ? L"%ls: another file is registered as this type library"
-                                               : L"%ls: this type library cannot be registered",
+            report(result == SELFREG_E_TYPELIB
+                       ? L"%ls: another file is registered as this type library"
+                       : L"%ls: this type library cannot be registered",
                    types->file);
         types->is_entered = SUCCEEDED(result);
         if (types->is_entered)
@@ -557,9 +591,10 @@ static HRESULT enter_types(const Place *place, Types *types)
     return result;
 }
 
-/* Registers the type library beside the DLL, else one that is written from the server's description. */
-static HRESULT provide_types(const Place *place, const WCHAR *dll, const WCHAR *name, const Library *told, REFGUID hub,
-                             Types *types)
+/* Registers the type library beside the DLL, else one that is written from the server's
+ * description. */
+static HRESULT provide_types(const Place *place, const WCHAR *dll, const WCHAR *name,
+                             const Library *told, REFGUID hub, Types *types)
 {
     memset(types, 0, sizeof *types);
     if (!find_type_library(dll, name, types->file))
@@ -578,9 +613,9 @@ static void withdraw_types(const Place *place, const Types *types)
 
 /* ---- classes */
 
-/* Removes a ProgID of this DLL's, and its class with the type library if that class bears the ProgID: one that another
-   name has entered stays. S_FALSE if there is none, or if it stays, because the class is registered for programs of the
-   other bits too. */
+/* Removes a ProgID of this DLL's, and its class with the type library if that class bears the
+   ProgID: one that another name has entered stays. S_FALSE if there is none, or if it stays,
+   because the class is registered for programs of the other bits too. */
 static HRESULT remove_class(const Place *place, const WCHAR *progid)
 {
     WCHAR path[CLASS_PATH], bears[PROGID];
@@ -591,7 +626,8 @@ static HRESULT remove_class(const Place *place, const WCHAR *progid)
         return result;
     class_path(&guid, L"\\Oaut", path);
     if (has_key(place->root, path) &&
-        (!read_of_class(place, &guid, L"\\ProgID", NULL, bears, ARRAYSIZE(bears)) || !_wcsicmp(bears, progid))) {
+        (!read_of_class(place, &guid, L"\\ProgID", NULL, bears, ARRAYSIZE(bears)) ||
+         !_wcsicmp(bears, progid))) {
         remove_library_of(place, &guid);
         class_path(&guid, L"", path);
         RegDeleteTreeW(place->root, path);
@@ -609,8 +645,8 @@ static BOOL is_of_name(const WCHAR *progid, const WCHAR *name)
     return !_wcsnicmp(progid, name, length) && progid[length] == L'.';
 }
 
-/* Whether a GUID is free for a name: it has no class, or one of this DLL's that the name has entered, or that is damaged.
-   Reports what it is otherwise. */
+/* Whether a GUID is free for a name: it has no class, or one of this DLL's that the name has
+   entered, or that is damaged. Reports what it is otherwise. */
 static BOOL is_free(HKEY root, REFGUID guid, const WCHAR *name, const WCHAR *progid)
 {
     WCHAR path[CLASS_PATH], own[CLASS_PATH], bears[PROGID], text[MAX_PATH], port[16];
@@ -625,7 +661,8 @@ static BOOL is_free(HKEY root, REFGUID guid, const WCHAR *name, const WCHAR *pro
         if (!read_of_class(&place, guid, L"\\InprocServer32", NULL, text, ARRAYSIZE(text)) &&
             !read_of_class(&place, guid, L"\\LocalServer32", NULL, text, ARRAYSIZE(text)))
             wcscpy(text, L"without a server");
-        report(L"%ls: its class, HKEY_CLASSES_ROOT\\%ls, is registered by another program (%ls)", progid, path, text);
+        report(L"%ls: its class, HKEY_CLASSES_ROOT\\%ls, is registered by another program (%ls)",
+               progid, path, text);
         return FALSE;
     }
     if (!read_of_class(&place, guid, L"\\ProgID", NULL, bears, PROGID) || !has_key(root, bears) ||
@@ -634,7 +671,8 @@ static BOOL is_free(HKEY root, REFGUID guid, const WCHAR *name, const WCHAR *pro
     if (!read_of_class(&place, guid, L"\\Oaut", L"Host", text, ARRAYSIZE(text)) ||
         !read_of_class(&place, guid, L"\\Oaut", L"Port", port, ARRAYSIZE(port)))
         text[0] = port[0] = 0;
-    report(L"%ls: its class is registered as %ls, of %ls:%ls; a library has one name on a machine: unregister %.*ls "
+    report(L"%ls: its class is registered as %ls, of %ls:%ls; a library has one name on a machine: "
+           L"unregister %.*ls "
            L"first, "
            L"or give the second store's library GUIDs of its own",
            progid, bears, text, port, (int)(dot - bears), bears);
@@ -642,12 +680,14 @@ static BOOL is_free(HKEY root, REFGUID guid, const WCHAR *name, const WCHAR *pro
 }
 
 /* Whether a coclass can be entered under a name. Nothing is changed; it reports what is wrong. */
-static HRESULT check_class(const Place *place, const WCHAR *name, const WCHAR *coclass, REFGUID guid)
+static HRESULT check_class(const Place *place, const WCHAR *name, const WCHAR *coclass,
+                           REFGUID guid)
 {
     WCHAR progid[PROGID];
     GUID other;
 
-    /* a server's word goes into the registry as a name only, and never over what another program has entered */
+    /* a server's word goes into the registry as a name only, and never over what another program
+     * has entered */
     if (!is_name(coclass)) {
         report(L"the server has a coclass whose name is not one: letters, digits and _ are");
         return SELFREG_E_CLASS;
@@ -657,13 +697,16 @@ static HRESULT check_class(const Place *place, const WCHAR *name, const WCHAR *c
         report(L"%ls: this name is registered by another program", progid);
         return SELFREG_E_CLASS;
     }
-    return is_free(place->root, guid, name, progid) && is_free(HKEY_CLASSES_ROOT, guid, name, progid) ? S_OK
-                                                                                                      : SELFREG_E_CLASS;
+    return is_free(place->root, guid, name, progid) &&
+                   is_free(HKEY_CLASSES_ROOT, guid, name, progid)
+               ? S_OK
+               : SELFREG_E_CLASS;
 }
 
 /* Enters a class. `coclass` is a name that the server has sent, or Store. */
-static HRESULT enter_class(const Place *place, const WCHAR *name, const WCHAR *coclass, REFGUID guid,
-                           const Settings *settings, const WCHAR *dll, const Types *types, BOOL is_hub)
+static HRESULT enter_class(const Place *place, const WCHAR *name, const WCHAR *coclass,
+                           REFGUID guid, const Settings *settings, const WCHAR *dll,
+                           const Types *types, BOOL is_hub)
 {
     WCHAR progid[PROGID], path[CLASS_PATH], id[40], text[40], below[PROGID + 8];
     BOOL well;
@@ -677,11 +720,13 @@ static HRESULT enter_class(const Place *place, const WCHAR *name, const WCHAR *c
     /* first, since a class is this DLL's if it has this key */
     class_path(guid, L"\\Oaut", path);
     well = set_text_value(place, path, L"Host", settings->host) &&
-           set_text_value(place, path, L"Port", settings->port) && set_number_value(place, path, L"Script", 1);
+           set_text_value(place, path, L"Port", settings->port) &&
+           set_number_value(place, path, L"Script", 1);
     if (is_hub)
         well = well && set_number_value(place, path, L"Store", 1);
     if (types->file[0])
-        well = well && set_text_value(place, path, types->is_written ? L"Written" : L"TypeLib", types->file);
+        well = well && set_text_value(place, path, types->is_written ? L"Written" : L"TypeLib",
+                                      types->file);
     class_path(guid, L"", path);
     well = well && set_text_value(place, path, NULL, progid);
     class_path(guid, L"\\InprocServer32", path);
@@ -711,6 +756,7 @@ static HRESULT enter_class(const Place *place, const WCHAR *name, const WCHAR *c
 typedef struct Told {
     GUID first;
     UINT32 count;
+
     struct {
         GUID guid;
         WCHAR name[MAX_NAME + 1];
@@ -739,7 +785,8 @@ static HRESULT ask_classes(Connection *connection, Told *told)
     return told->count ? S_OK : SELFREG_E_CLASS;
 }
 
-/* Takes out the classes of a name that its ProgIDs do not lead to: those of a registration that is damaged. */
+/* Takes out the classes of a name that its ProgIDs do not lead to: those of a registration that is
+ * damaged. */
 static void remove_orphans(const Place *place, const WCHAR *name)
 {
     WCHAR text[256], bears[PROGID], path[CLASS_PATH];
@@ -749,7 +796,8 @@ static void remove_orphans(const Place *place, const WCHAR *name)
 
     if (RegOpenKeyExW(place->root, L"CLSID", 0, KEY_READ, &classes))
         return;
-    for (; !RegEnumKeyExW(classes, index++, text, &units, NULL, NULL, NULL, NULL); units = ARRAYSIZE(text)) {
+    for (; !RegEnumKeyExW(classes, index++, text, &units, NULL, NULL, NULL, NULL);
+         units = ARRAYSIZE(text)) {
         if (text[0] != L'{' || FAILED(CLSIDFromString(text, &guid)))
             continue;
         class_path(&guid, L"\\Oaut", path);
@@ -766,7 +814,8 @@ static void remove_orphans(const Place *place, const WCHAR *name)
     RegCloseKey(classes);
 }
 
-/* Takes out all ProgIDs NAME.* of this DLL's, and all classes of the name; the server is not asked. */
+/* Takes out all ProgIDs NAME.* of this DLL's, and all classes of the name; the server is not
+ * asked. */
 static void remove_all(const Place *place, const WCHAR *name)
 {
     WCHAR progid[PROGID];
@@ -777,18 +826,21 @@ static void remove_all(const Place *place, const WCHAR *name)
         status = RegEnumKeyExW(place->root, index, progid, &units, NULL, NULL, NULL, NULL);
         if (status != ERROR_SUCCESS && status != ERROR_MORE_DATA)
             break;
-        if (status != ERROR_SUCCESS || !is_of_name(progid, name) || remove_class(place, progid) != S_OK)
+        if (status != ERROR_SUCCESS || !is_of_name(progid, name) ||
+            remove_class(place, progid) != S_OK)
             index++; /* else the next one is in its place */
     }
     remove_orphans(place, name);
-    if (place->is_user && has_only(place->root, L"CLSID", 0)) /* a user whose first class it was had none */
+    /* a user whose first class it was had none */
+    if (place->is_user && has_only(place->root, L"CLSID", 0))
         RegDeleteKeyW(place->root, L"CLSID");
 }
 
-/* Enters all coclasses and the hub, whose GUID is made of that of the library's first interface. What an earlier
-   registration has left goes first, so that its type library is not taken for another program's. */
-static HRESULT enter_all(const Place *place, const WCHAR *name, const Settings *settings, const Told *told,
-                         const Library *library)
+/* Enters all coclasses and the hub, whose GUID is made of that of the library's first interface.
+   What an earlier registration has left goes first, so that its type library is not taken for
+   another program's. */
+static HRESULT enter_all(const Place *place, const WCHAR *name, const Settings *settings,
+                         const Told *told, const Library *library)
 {
     WCHAR dll[MAX_PATH];
     DWORD length = GetModuleFileNameW(this_dll, dll, MAX_PATH);
@@ -807,7 +859,8 @@ static HRESULT enter_all(const Place *place, const WCHAR *name, const Settings *
     remove_all(place, name);
     result = provide_types(place, dll, name, library, &hub, &types);
     for (i = 0; i < told->count && SUCCEEDED(result); i++)
-        result = enter_class(place, name, told->classes[i].name, &told->classes[i].guid, settings, dll, &types, FALSE);
+        result = enter_class(place, name, told->classes[i].name, &told->classes[i].guid, settings,
+                             dll, &types, FALSE);
     if (SUCCEEDED(result))
         result = enter_class(place, name, L"Store", &hub, settings, dll, &types, TRUE);
     if (FAILED(result)) { /* all of them or none */
@@ -829,7 +882,8 @@ static HRESULT enter_of_server(const Place *place, const WCHAR *name, const Sett
         return result;
     if ((told = calloc(1, sizeof *told))) {
         connection_enter(connection);
-        if (FAILED(result = ask_classes(connection, told)) || FAILED(result = library_of(connection, &library)))
+        if (FAILED(result = ask_classes(connection, told)) ||
+            FAILED(result = library_of(connection, &library)))
             report_refusal(result, connection);
         else
             result = enter_all(place, name, settings, told, library);
@@ -841,8 +895,9 @@ static HRESULT enter_of_server(const Place *place, const WCHAR *name, const Sett
 }
 
 #define FOR_USER L"user:"
-#define USAGE                                                                                                       \
-    L"nothing is changed: give the name and the server, as in  regsvr32 %ls/n /i:Desk@localhost:8765 oautcom.dll  " \
+#define USAGE                                                                   \
+    L"nothing is changed: give the name and the server, as in  regsvr32 %ls/n " \
+    L"/i:Desk@localhost:8765 oautcom.dll  "                                     \
     L"(/i:user:Desk@localhost:8765 for yourself alone, without administrator rights)"
 
 __declspec(dllexport) HRESULT WINAPI DllInstall(BOOL on, LPCWSTR line)
@@ -861,10 +916,11 @@ __declspec(dllexport) HRESULT WINAPI DllInstall(BOOL on, LPCWSTR line)
         report(USAGE, on ? L"" : L"/u ");
         return E_INVALIDARG;
     }
-    if (RegCreateKeyExW(place.is_user ? HKEY_CURRENT_USER : HKEY_LOCAL_MACHINE, CLASSES, 0, NULL, 0, KEY_ALL_ACCESS,
-                        NULL, &place.root, NULL)) {
-        report(L"the registry cannot be changed: run it as administrator, or say /i:user:%ls@%ls:%ls", name,
-               settings.host, settings.port);
+    if (RegCreateKeyExW(place.is_user ? HKEY_CURRENT_USER : HKEY_LOCAL_MACHINE, CLASSES, 0, NULL, 0,
+                        KEY_ALL_ACCESS, NULL, &place.root, NULL)) {
+        report(
+            L"the registry cannot be changed: run it as administrator, or say /i:user:%ls@%ls:%ls",
+            name, settings.host, settings.port);
         return SELFREG_E_CLASS;
     }
     if (on)
@@ -875,7 +931,8 @@ __declspec(dllexport) HRESULT WINAPI DllInstall(BOOL on, LPCWSTR line)
     return result;
 }
 
-/* What oautreg asks: whether a server is reached at HOST:PORT. Prints its coclasses, or why it is not. */
+/* What oautreg asks: whether a server is reached at HOST:PORT. Prints its coclasses, or why it is
+ * not. */
 __declspec(dllexport) HRESULT WINAPI OautTest(LPCWSTR address)
 {
     WCHAR line[320], name[MAX_LIBRARY + 1];
@@ -887,7 +944,8 @@ __declspec(dllexport) HRESULT WINAPI OautTest(LPCWSTR address)
 
     if (wcslen(address) > 300 || swprintf(line, ARRAYSIZE(line), L"Test@%ls", address) < 0 ||
         !parse_line(line, name, &settings)) {
-        report(L"%ls is no address: HOST:PORT or oaut://HOST:PORT is, and there is no TLS here", address);
+        report(L"%ls is no address: HOST:PORT or oaut://HOST:PORT is, and there is no TLS here",
+               address);
         return E_INVALIDARG;
     }
     if (!(connection = connection_to(&settings)))
@@ -898,7 +956,8 @@ __declspec(dllexport) HRESULT WINAPI OautTest(LPCWSTR address)
     connection_leave(connection, result);
     connection_release(connection);
     for (i = 0; told && SUCCEEDED(result) && i < told->count; i++)
-        say(L"%ls has the coclass %ls", address, is_name(told->classes[i].name) ? told->classes[i].name : L"?");
+        say(L"%ls has the coclass %ls", address,
+            is_name(told->classes[i].name) ? told->classes[i].name : L"?");
     free(told);
     return result;
 }

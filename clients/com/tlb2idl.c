@@ -2,9 +2,10 @@
 
        tlb2idl FILE [-o OUT.idl] [--double=DECIMAL] [--date=CY|BSTR] [--only=COCLASS]..
 
-   FILE is a .tlb, or a DLL or EXE with a type library inside; `FILE\2` is its second one. What cannot be carried is left out, each with a line on
-   standard error. docs/guide/import.md lists what is kept, in which form, and why the rest is not. clients/python/oaut/importing.py has the same rules for
-   MIDL text, in the same order and with the same words: change both. */
+   FILE is a .tlb, or a DLL or EXE with a type library inside; `FILE\2` is its second one. What
+   cannot be carried is left out, each with a line on standard error. docs/guide/import.md lists
+   what is kept, in which form, and why the rest is not. clients/python/oaut/importing.py has the
+   same rules for MIDL text, in the same order and with the same words: change both. */
 #define COBJMACROS
 #define CINTERFACE
 #ifndef TESTS_TYPELIB_H
@@ -160,7 +161,10 @@ static void add(Text *to, const char *format, ...)
     va_start(words, format);
     count = vsnprintf(some, sizeof some, format, words);
     va_end(words);
-    add_bytes(to, some, count < 0 ? 0 : (size_t)count < sizeof some ? (size_t)count : sizeof some - 1);
+    add_bytes(to, some,
+              count < 0                     ? 0
+              : (size_t)count < sizeof some ? (size_t)count
+                                            : sizeof some - 1);
 }
 
 static const char *kept_text(const char *format, ...)
@@ -179,14 +183,16 @@ static const char *kept_text(const char *format, ...)
 /* A line of what is left out. */
 #define LEAVE(...) (given.left++, add(&given.report, __VA_ARGS__), add(&given.report, "\n"))
 
-/* A name in UTF-8; of a long one the first 400 bytes or so, which no rule takes for a name. The BSTR is freed. */
+/* A name in UTF-8; of a long one the first 400 bytes or so, which no rule takes for a name. The
+ * BSTR is freed. */
 static const char *name_of(BSTR wide)
 {
     char some[512] = "";
     UINT length = wide ? SysStringLen(wide) : 0;
     char *made;
 
-    WideCharToMultiByte(CP_UTF8, 0, wide, length < 130 ? (int)length : 130, some, sizeof some - 1, NULL, NULL);
+    WideCharToMultiByte(CP_UTF8, 0, wide, length < 130 ? (int)length : 130, some, sizeof some - 1,
+                        NULL, NULL);
     SysFreeString(wide);
     made = room_for(strlen(some) + 1, 1);
     return strcpy(made, some);
@@ -228,14 +234,16 @@ static void add_guid(Text *to, const GUID *guid)
 {
     const BYTE *last = guid->Data4;
 
-    add(to, "%08lx-%04x-%04x-%02x%02x-%02x%02x%02x%02x%02x%02x", (unsigned long)guid->Data1, guid->Data2, guid->Data3,
-        last[0], last[1], last[2], last[3], last[4], last[5], last[6], last[7]);
+    add(to, "%08lx-%04x-%04x-%02x%02x-%02x%02x%02x%02x%02x%02x", (unsigned long)guid->Data1,
+        guid->Data2, guid->Data3, last[0], last[1], last[2], last[3], last[4], last[5], last[6],
+        last[7]);
 }
 
 /* ---- types */
 
 /* A type with this many pointers removed. Returns why it is left out, or NULL. */
-static const char *carried(ITypeInfo *of, const TYPEDESC *desc, int pointers, BOOL in_array, Type *type)
+static const char *carried(ITypeInfo *of, const TYPEDESC *desc, int pointers, BOOL in_array,
+                           Type *type)
 {
     ITypeInfo *infos[DEPTH_LIMIT];
     TYPEATTR *attributes[DEPTH_LIMIT];
@@ -267,36 +275,76 @@ static const char *carried(ITypeInfo *of, const TYPEDESC *desc, int pointers, BO
         }
         of = infos[held];
         switch (attributes[held++]->typekind) {
-        case TKIND_ALIAS: desc = &attributes[held - 1]->tdescAlias; continue;
-        case TKIND_ENUM: found.word = "long"; break;
+        case TKIND_ALIAS:
+            desc = &attributes[held - 1]->tdescAlias;
+            continue;
+        case TKIND_ENUM:
+            found.word = "long";
+            break;
         case TKIND_INTERFACE:
         case TKIND_DISPATCH:
-        case TKIND_COCLASS: why = "interface pointer"; goto done;
-        default: why = "record"; goto done;
+        case TKIND_COCLASS:
+            why = "interface pointer";
+            goto done;
+        default:
+            why = "record";
+            goto done;
         }
         break;
     }
     if (!found.word)
         switch (desc->vt) {
-        case VT_I1: found.word = "char"; break;
-        case VT_UI1: found.word = "unsigned char"; break;
-        case VT_I2: found.word = "short"; break;
-        case VT_UI2: found.word = "unsigned short"; break;
-        case VT_I4: found.word = "long"; break;
-        case VT_UI4: found.word = "unsigned long"; break;
-        case VT_INT: found.word = "int"; break;
-        case VT_UINT: found.word = "unsigned int"; break;
+        case VT_I1:
+            found.word = "char";
+            break;
+        case VT_UI1:
+            found.word = "unsigned char";
+            break;
+        case VT_I2:
+            found.word = "short";
+            break;
+        case VT_UI2:
+            found.word = "unsigned short";
+            break;
+        case VT_I4:
+            found.word = "long";
+            break;
+        case VT_UI4:
+            found.word = "unsigned long";
+            break;
+        case VT_INT:
+            found.word = "int";
+            break;
+        case VT_UINT:
+            found.word = "unsigned int";
+            break;
         case VT_I8:
-        case VT_INT_PTR: found.word = "hyper"; break;
+        case VT_INT_PTR:
+            found.word = "hyper";
+            break;
         case VT_UI8:
-        case VT_UINT_PTR: found.word = "unsigned hyper"; break;
-        case VT_CY: found.word = "CURRENCY"; break;
-        case VT_BOOL: found.word = "VARIANT_BOOL"; break;
+        case VT_UINT_PTR:
+            found.word = "unsigned hyper";
+            break;
+        case VT_CY:
+            found.word = "CURRENCY";
+            break;
+        case VT_BOOL:
+            found.word = "VARIANT_BOOL";
+            break;
         case VT_ERROR:
-        case VT_HRESULT: found.word = "SCODE"; break;
-        case VT_DECIMAL: found.word = "DECIMAL"; break;
-        case VT_BSTR: found.word = "BSTR"; break;
-        case VT_VARIANT: found.word = "VARIANT"; break;
+        case VT_HRESULT:
+            found.word = "SCODE";
+            break;
+        case VT_DECIMAL:
+            found.word = "DECIMAL";
+            break;
+        case VT_BSTR:
+            found.word = "BSTR";
+            break;
+        case VT_VARIANT:
+            found.word = "VARIANT";
+            break;
         case VT_R4:
             found.was = "float";
             found.word = given.as_double;
@@ -309,17 +357,33 @@ static const char *carried(ITypeInfo *of, const TYPEDESC *desc, int pointers, BO
             found.was = "date";
             found.word = given.as_date;
             break;
-        case VT_VOID: is_void = TRUE; break;
-        case VT_SAFEARRAY: element = desc->lptdesc; break;
-        case VT_CARRAY: why = "array of C"; break;
+        case VT_VOID:
+            is_void = TRUE;
+            break;
+        case VT_SAFEARRAY:
+            element = desc->lptdesc;
+            break;
+        case VT_CARRAY:
+            why = "array of C";
+            break;
         case VT_LPSTR:
-        case VT_LPWSTR: why = "text that is no BSTR"; break;
+        case VT_LPWSTR:
+            why = "text that is no BSTR";
+            break;
         case VT_DISPATCH:
-        case VT_UNKNOWN: why = "interface pointer"; break;
+        case VT_UNKNOWN:
+            why = "interface pointer";
+            break;
         case VT_FILETIME:
-        case VT_CLSID: why = "record"; break;
-        case VT_PTR: why = "pointer"; break;
-        default: why = "type that no value has"; break;
+        case VT_CLSID:
+            why = "record";
+            break;
+        case VT_PTR:
+            why = "pointer";
+            break;
+        default:
+            why = "type that no value has";
+            break;
         }
     if (!why && ((int)pointed > pointers || (is_void && pointed)))
         why = "pointer";
@@ -358,8 +422,8 @@ static void add_type(Text *to, const Type *type)
 
 static BOOL is_same(const Type *one, const Type *other)
 {
-    return one->word && other->word && !strcmp(one->word, other->word) && one->is_array == other->is_array &&
-           one->was == other->was;
+    return one->word && other->word && !strcmp(one->word, other->word) &&
+           one->is_array == other->is_array && one->was == other->was;
 }
 
 /* ---- defaults */
@@ -372,19 +436,37 @@ static BOOL whole(const VARIANT *value, BOOL *is_below, uint64_t *size)
 
     *is_below = FALSE;
     switch (V_VT(value)) {
-    case VT_I1: number = (signed char)V_UI1(value); break;
-    case VT_UI1: number = V_UI1(value); break;
-    case VT_I2: number = V_I2(value); break;
-    case VT_UI2: number = V_UI2(value); break;
+    case VT_I1:
+        number = (signed char)V_UI1(value);
+        break;
+    case VT_UI1:
+        number = V_UI1(value);
+        break;
+    case VT_I2:
+        number = V_I2(value);
+        break;
+    case VT_UI2:
+        number = V_UI2(value);
+        break;
     case VT_I4:
-    case VT_INT: number = V_I4(value); break;
+    case VT_INT:
+        number = V_I4(value);
+        break;
     case VT_UI4:
     case VT_UINT:
     case VT_ERROR:
-    case VT_HRESULT: number = V_UI4(value); break;
-    case VT_I8: number = V_I8(value); break;
-    case VT_BOOL: number = V_BOOL(value); break;
-    case VT_UI8: *size = V_UI8(value); return TRUE;
+    case VT_HRESULT:
+        number = V_UI4(value);
+        break;
+    case VT_I8:
+        number = V_I8(value);
+        break;
+    case VT_BOOL:
+        number = V_BOOL(value);
+        break;
+    case VT_UI8:
+        *size = V_UI8(value);
+        return TRUE;
     case VT_CY:
         if (V_CY(value).int64 % 10000)
             return FALSE;
@@ -398,7 +480,8 @@ static BOOL whole(const VARIANT *value, BOOL *is_below, uint64_t *size)
             return FALSE;
         number = (int64_t)real;
         break;
-    default: return FALSE;
+    default:
+        return FALSE;
     }
     *is_below = number < 0;
     *size = number < 0 ? (uint64_t)0 - (uint64_t)number : (uint64_t)number;
@@ -427,6 +510,7 @@ static const char *literal_of(const VARIANT *value, const Type *type)
         {"CURRENCY", INT64_MAX / 10000, INT64_MAX / 10000},
         {"VARIANT", 0x80000000, 0x7FFFFFFF},
     };
+
     uint64_t size;
     BOOL is_below;
     size_t i;
@@ -455,10 +539,11 @@ static const char *literal_of(const VARIANT *value, const Type *type)
     }
     if (!whole(value, &is_below, &size))
         return NULL;
-    if (!strcmp(type->word, "VARIANT_BOOL") || (!strcmp(type->word, "VARIANT") && V_VT(value) == VT_BOOL))
+    if (!strcmp(type->word, "VARIANT_BOOL") ||
+        (!strcmp(type->word, "VARIANT") && V_VT(value) == VT_BOOL))
         return size ? "TRUE" : "FALSE";
-    if (!strcmp(type->word, "VARIANT") &&
-        (V_VT(value) == VT_R4 || V_VT(value) == VT_R8 || V_VT(value) == VT_DATE || V_VT(value) == VT_CY))
+    if (!strcmp(type->word, "VARIANT") && (V_VT(value) == VT_R4 || V_VT(value) == VT_R8 ||
+                                           V_VT(value) == VT_DATE || V_VT(value) == VT_CY))
         return NULL;
     if (!strcmp(type->word, "BSTR") && !type->was && !size)
         return "\"\"";
@@ -470,7 +555,8 @@ static const char *literal_of(const VARIANT *value, const Type *type)
             if (!ranges[i].least && is_below && width && size <= width / 2) {
                 size = width - size;
                 is_below = FALSE;
-            } else if (ranges[i].least == width && i < 4 && !is_below && size >= width && size < 2 * width) {
+            } else if (ranges[i].least == width && i < 4 && !is_below && size >= width &&
+                       size < 2 * width) {
                 size = 2 * width - size;
                 is_below = TRUE;
             }
@@ -484,7 +570,8 @@ static const char *literal_of(const VARIANT *value, const Type *type)
 /* ---- members */
 
 /* A parameter of a function. Gives why its member is left out, or NULL. */
-static const char *parameter_of(ITypeInfo *info, const ELEMDESC *element, Kind kind, BOOL is_value, Parameter *made)
+static const char *parameter_of(ITypeInfo *info, const ELEMDESC *element, Kind kind, BOOL is_value,
+                                Parameter *made)
 {
     const PARAMDESC *words = &element->paramdesc;
     BOOL has_default = (words->wParamFlags & PARAMFLAG_FHASDEFAULT) && words->pparamdescex;
@@ -507,7 +594,8 @@ static const char *parameter_of(ITypeInfo *info, const ELEMDESC *element, Kind k
         return has_default || (words->wParamFlags & PARAMFLAG_FOPT) ? "default" : NULL;
     if (kind != METHOD && made->type.is_array)
         return "array";
-    made->is_optional = has_default || (words->wParamFlags & (PARAMFLAG_FOPT | PARAMFLAG_FHASDEFAULT));
+    made->is_optional = has_default ||
+                        (words->wParamFlags & (PARAMFLAG_FOPT | PARAMFLAG_FHASDEFAULT));
     if (has_default) {
         made->literal = literal_of(&words->pparamdescex->varDefaultValue, &made->type);
         if (!made->literal)
@@ -516,9 +604,10 @@ static const char *parameter_of(ITypeInfo *info, const ELEMDESC *element, Kind k
     return NULL;
 }
 
-/* A form of a function; `names` are those of its member and of the parameters of its first form. Gives why it is left out, or NULL. */
-static const char *form_of(ITypeInfo *info, const FUNCDESC *function, const char *const *names, unsigned name_count,
-                           Member *made)
+/* A form of a function; `names` are those of its member and of the parameters of its first form.
+ * Gives why it is left out, or NULL. */
+static const char *form_of(ITypeInfo *info, const FUNCDESC *function, const char *const *names,
+                           unsigned name_count, Member *made)
 {
     const ELEMDESC *taken[PARAMETER_LIMIT + 1], *result = &function->elemdescFunc;
     unsigned count = 0, i, j;
@@ -539,7 +628,8 @@ static const char *form_of(ITypeInfo *info, const FUNCDESC *function, const char
 
         if (one->paramdesc.wParamFlags & PARAMFLAG_FLCID)
             continue;
-        if ((one->paramdesc.wParamFlags & PARAMFLAG_FRETVAL) && i == (unsigned)function->cParams - 1) {
+        if ((one->paramdesc.wParamFlags & PARAMFLAG_FRETVAL) &&
+            i == (unsigned)function->cParams - 1) {
             result = one;
             pointers = 1;
             break;
@@ -554,15 +644,19 @@ static const char *form_of(ITypeInfo *info, const FUNCDESC *function, const char
         BOOL is_value = made->kind == PUT && i == count - 1;
         Parameter *one = &made->parameters[i];
 
-        one->name = is_value ? "" : i < name_count && *names[i] ? names[i] : kept_text("Parameter%u", i + 1);
+        one->name = is_value                      ? ""
+                    : i < name_count && *names[i] ? names[i]
+                                                  : kept_text("Parameter%u", i + 1);
         why = parameter_of(info, taken[i], made->kind, is_value, one);
         if (why)
-            return is_value ? kept_text("%s, the new value", why) : kept_text("%s, parameter %.65s", why, one->name);
+            return is_value ? kept_text("%s, the new value", why)
+                            : kept_text("%s, parameter %.65s", why, one->name);
     }
     made->count = count;
     for (i = 0; i < count; i++)
         for (j = 0; j < i; j++)
-            if (*made->parameters[i].name && !compared(made->parameters[i].name, made->parameters[j].name))
+            if (*made->parameters[i].name &&
+                !compared(made->parameters[i].name, made->parameters[j].name))
                 return "two parameters of one name";
     if (pointers || result->tdesc.vt != VT_HRESULT) {
         why = carried(info, &result->tdesc, pointers, FALSE, &made->type);
@@ -606,7 +700,8 @@ static BOOL do_agree(const Member *one, const Member *other)
 {
     unsigned i;
 
-    if (one->id != other->id || own_count(one) != own_count(other) || !is_same(value_of(one), value_of(other)))
+    if (one->id != other->id || own_count(one) != own_count(other) ||
+        !is_same(value_of(one), value_of(other)))
         return FALSE;
     for (i = 0; i < own_count(one); i++) {
         const Parameter *first = &one->parameters[i], *second = &other->parameters[i];
@@ -619,7 +714,8 @@ static BOOL do_agree(const Member *one, const Member *other)
     return TRUE;
 }
 
-/* Why a form cannot be kept beside the earlier ones, or NULL. A property's get and put without parameters are one declaration. */
+/* Why a form cannot be kept beside the earlier ones, or NULL. A property's get and put without
+ * parameters are one declaration. */
 static const char *joined(const Interface *to, const Member *made, size_t *declarations)
 {
     const Member *other = NULL;
@@ -658,22 +754,27 @@ static void keep(Collected *to, Member *made, const char *why)
     if (!why)
         why = joined(to->of, made, &to->declarations);
     if (why) {
-        LEAVE("%s.%.65s, DISPID %ld, %s: %s", to->of->name, made->name, (long)made->id, kinds[made->kind], why);
+        LEAVE("%s.%.65s, DISPID %ld, %s: %s", to->of->name, made->name, (long)made->id,
+              kinds[made->kind], why);
         free(made);
         return;
     }
-    to->of->members = with_room(to->of->members, to->of->count, &to->of->room, sizeof *to->of->members);
+    to->of->members = with_room(to->of->members, to->of->count, &to->of->room,
+                                sizeof *to->of->members);
     to->of->members[to->of->count++] = made;
 }
 
-/* Whether this is one of the functions that each dispatch interface has of IUnknown and IDispatch. */
+/* Whether this is one of the functions that each dispatch interface has of IUnknown and
+ * IDispatch. */
 static BOOL is_of_dispatch(const FUNCDESC *function, const char *name)
 {
-    static const char *const seven[] = {"QueryInterface", "AddRef",        "Release", "GetTypeInfoCount",
-                                        "GetTypeInfo",    "GetIDsOfNames", "Invoke"};
+    static const char *const seven[] = {
+        "QueryInterface", "AddRef",        "Release", "GetTypeInfoCount",
+        "GetTypeInfo",    "GetIDsOfNames", "Invoke"};
     size_t i;
 
-    if (((ULONG)function->memid & 0xFFFE0000) != 0x60000000 || !(function->wFuncFlags & FUNCFLAG_FRESTRICTED))
+    if (((ULONG)function->memid & 0xFFFE0000) != 0x60000000 ||
+        !(function->wFuncFlags & FUNCFLAG_FRESTRICTED))
         return FALSE;
     for (i = 0; i < 7; i++)
         if (!strcmp(name, seven[i]))
@@ -681,7 +782,8 @@ static BOOL is_of_dispatch(const FUNCDESC *function, const char *name)
     return FALSE;
 }
 
-static void add_function(Collected *to, ITypeInfo *info, const FUNCDESC *function, BOOL is_dispinterface)
+static void add_function(Collected *to, ITypeInfo *info, const FUNCDESC *function,
+                         BOOL is_dispinterface)
 {
     BSTR wide[2 * PARAMETER_LIMIT + 2] = {NULL};
     const char *names[2 * PARAMETER_LIMIT + 1];
@@ -695,10 +797,18 @@ static void add_function(Collected *to, ITypeInfo *info, const FUNCDESC *functio
         names[i - 1] = name_of(wide[i]);
     made->id = function->memid;
     switch (function->invkind) {
-    case INVOKE_PROPERTYGET: made->kind = GET; break;
-    case INVOKE_PROPERTYPUT: made->kind = PUT; break;
-    case INVOKE_PROPERTYPUTREF: made->kind = PUTREF; break;
-    default: made->kind = METHOD; break;
+    case INVOKE_PROPERTYGET:
+        made->kind = GET;
+        break;
+    case INVOKE_PROPERTYPUT:
+        made->kind = PUT;
+        break;
+    case INVOKE_PROPERTYPUTREF:
+        made->kind = PUTREF;
+        break;
+    default:
+        made->kind = METHOD;
+        break;
     }
     if (is_dispinterface && is_of_dispatch(function, made->name))
         free(made);
@@ -761,8 +871,8 @@ static void add_own(Collected *to, ITypeInfo *info)
     ITypeInfo_ReleaseTypeAttr(info, attributes);
 }
 
-/* The interfaces from one up to IDispatch or IUnknown, without these; the caller releases the references. Reports whether IDispatch is there, and whether
-   one could not be found. */
+/* The interfaces from one up to IDispatch or IUnknown, without these; the caller releases the
+   references. Reports whether IDispatch is there, and whether one could not be found. */
 static unsigned chain_of(ITypeInfo *info, ITypeInfo **chain, BOOL *dispatches, BOOL *is_cut)
 {
     unsigned count = 0;
@@ -778,13 +888,15 @@ static unsigned chain_of(ITypeInfo *info, ITypeInfo **chain, BOOL *dispatches, B
             *is_cut = TRUE;
             break;
         }
-        if (IsEqualGUID(&attributes->guid, &iid_dispatch) || IsEqualGUID(&attributes->guid, &iid_unknown)) {
+        if (IsEqualGUID(&attributes->guid, &iid_dispatch) ||
+            IsEqualGUID(&attributes->guid, &iid_unknown)) {
             *dispatches |= IsEqualGUID(&attributes->guid, &iid_dispatch);
             ITypeInfo_ReleaseTypeAttr(info, attributes);
             break;
         }
-        if (attributes->cImplTypes && (FAILED(ITypeInfo_GetRefTypeOfImplType(info, 0, &reference)) ||
-                                       FAILED(ITypeInfo_GetRefTypeInfo(info, reference, &above)))) {
+        if (attributes->cImplTypes &&
+            (FAILED(ITypeInfo_GetRefTypeOfImplType(info, 0, &reference)) ||
+             FAILED(ITypeInfo_GetRefTypeInfo(info, reference, &above)))) {
             *is_cut = TRUE;
             above = NULL;
         }
@@ -815,7 +927,8 @@ static BOOL collect(Interface *of, ITypeInfo *info, size_t *seen)
         return TRUE;
     }
     count = chain_of(second ? second : info, chain, &dispatches, &is_cut);
-    dispatches = dispatches || of->kind == TKIND_DISPATCH || (of->flags & (TYPEFLAG_FDUAL | TYPEFLAG_FDISPATCHABLE));
+    dispatches = dispatches || of->kind == TKIND_DISPATCH ||
+                 (of->flags & (TYPEFLAG_FDUAL | TYPEFLAG_FDISPATCHABLE));
     if (dispatches && is_cut)
         LEAVE("interface %s, members of one of another library: not there", of->name);
     while (count--) {
@@ -876,9 +989,11 @@ static void write_interface(Interface *of)
     add_guid(to, &of->guid);
     add(to, ")]\ndispinterface %s {\nproperties:\n", of->name);
     for (i = 0; i < of->count; i++) {
-        const Member *member = of->members[i], *other = own_count(member) ? NULL : other_form(of, member);
+        const Member *member = of->members[i],
+                     *other = own_count(member) ? NULL : other_form(of, member);
 
-        if (member->kind == PROPERTY || member->kind == READONLY || (member->kind == GET && !member->count)) {
+        if (member->kind == PROPERTY || member->kind == READONLY ||
+            (member->kind == GET && !member->count)) {
             add(to, "[id(%ld)%s] ", (long)member->id,
                 member->kind == READONLY || (member->kind == GET && !other) ? ", readonly" : "");
             add_type(to, &member->type);
@@ -918,7 +1033,8 @@ static void write_coclass(Coclass *of)
     add(&of->text, ")]\ncoclass %s {\n", of->name);
     for (i = 0; i < of->count; i++)
         if (of->entries[i].kept)
-            add(&of->text, "%sdispinterface %s;\n", i == first ? "[default] " : "", of->entries[i].name);
+            add(&of->text, "%sdispinterface %s;\n", i == first ? "[default] " : "",
+                of->entries[i].name);
     add(&of->text, "}\n");
 }
 
@@ -967,7 +1083,8 @@ static void read_coclass(Coclass *to, ITypeInfo *info, unsigned count)
         entry->is_source = (flags & IMPLTYPEFLAG_FSOURCE) != 0;
         if (FAILED(ITypeInfo_GetRefTypeOfImplType(info, i, &reference)) ||
             FAILED(ITypeInfo_GetRefTypeInfo(info, reference, &of))) {
-            LEAVE("coclass %.65s, interface %u: of another library, which is not there", to->name, i);
+            LEAVE("coclass %.65s, interface %u: of another library, which is not there", to->name,
+                  i);
             continue;
         }
         if (SUCCEEDED(ITypeInfo_GetTypeAttr(of, &attributes))) {
@@ -983,7 +1100,8 @@ static void read_coclass(Coclass *to, ITypeInfo *info, unsigned count)
 
 static void read_item(ITypeInfo *info, UINT place)
 {
-    static const char *const others[] = {"enum", "record", "module", NULL, NULL, NULL, "alias", "union"};
+    static const char *const others[] = {"enum", "record", "module", NULL,
+                                         NULL,   NULL,     "alias",  "union"};
     TYPEATTR *attributes;
     const char *name = item_name(info);
 
@@ -991,13 +1109,14 @@ static void read_item(ITypeInfo *info, UINT place)
         LEAVE("item %.65s: it cannot be read", name);
         return;
     }
-    if (IsEqualGUID(&attributes->guid, &iid_dispatch) || IsEqualGUID(&attributes->guid, &iid_unknown)) {
+    if (IsEqualGUID(&attributes->guid, &iid_dispatch) ||
+        IsEqualGUID(&attributes->guid, &iid_unknown)) {
         /* (which some compilers write into each library) */
     } else if (attributes->typekind == TKIND_INTERFACE || attributes->typekind == TKIND_DISPATCH) {
         Interface *made;
 
-        library.interfaces = with_room(library.interfaces, library.interface_count, &library.interface_room,
-                                       sizeof *made);
+        library.interfaces = with_room(library.interfaces, library.interface_count,
+                                       &library.interface_room, sizeof *made);
         made = &library.interfaces[library.interface_count++];
         made->name = name;
         made->guid = attributes->guid;
@@ -1008,7 +1127,8 @@ static void read_item(ITypeInfo *info, UINT place)
     } else if (attributes->typekind == TKIND_COCLASS) {
         Coclass *made;
 
-        library.coclasses = with_room(library.coclasses, library.coclass_count, &library.coclass_room, sizeof *made);
+        library.coclasses = with_room(library.coclasses, library.coclass_count,
+                                      &library.coclass_room, sizeof *made);
         made = &library.coclasses[library.coclass_count++];
         made->name = name;
         made->guid = attributes->guid;
@@ -1026,7 +1146,8 @@ static void read_item(ITypeInfo *info, UINT place)
 }
 
 /* Why an item cannot be kept beside the earlier ones, or NULL. */
-static const char *fault_of_item(const char *name, const GUID *guid, size_t interfaces, size_t coclasses)
+static const char *fault_of_item(const char *name, const GUID *guid, size_t interfaces,
+                                 size_t coclasses)
 {
     const char *why = fault_of_name(name);
     BOOL is_taken = IsEqualGUID(guid, &library.guid);
@@ -1072,7 +1193,8 @@ static Interface *interface_of(const Entry *entry, BOOL also_left)
         if (!found) {
             Interface *one = &library.interfaces[middle];
 
-            return IsEqualGUID(&one->guid, &entry->guid) && (also_left || !one->is_left) ? one : NULL;
+            return IsEqualGUID(&one->guid, &entry->guid) && (also_left || !one->is_left) ? one
+                                                                                         : NULL;
         }
         if (found < 0)
             high = middle;
@@ -1107,11 +1229,13 @@ static void choose_interfaces(ITypeLib *of)
         unsigned long left = given.left;
 
         one->is_left = TRUE;
-        if ((given.only_count && !one->is_wanted) || FAILED(ITypeLib_GetTypeInfo(of, one->place, &info)))
+        if ((given.only_count && !one->is_wanted) ||
+            FAILED(ITypeLib_GetTypeInfo(of, one->place, &info)))
             continue;
         why = fault_of_item(one->name, &one->guid, i, 0);
         if (!collect(one, info, &seen)) {
-            given.report.length = lines; /* (what it has is no member of a dispatch interface) */
+            /* (what it has is no member of a dispatch interface) */
+            given.report.length = lines;
             given.left = left;
             LEAVE("interface %.65s: no dispatch interface", one->name);
         } else {
@@ -1153,7 +1277,10 @@ static void choose_coclasses(void)
                 if (one->entries[k].kept == kept)
                     break;
             if (!kept || k < j)
-                leave_entry(one, entry, entry->is_source ? "source interface" : kept ? "a second time" : "not kept");
+                leave_entry(one, entry,
+                            entry->is_source ? "source interface"
+                            : kept           ? "a second time"
+                                             : "not kept");
             else {
                 entry->kept = kept;
                 has_some = TRUE;
@@ -1180,7 +1307,8 @@ static void choose_coclasses(void)
     }
 }
 
-/* Leaves interfaces out until the rest fits; the coclasses' defaults come first, then their others. */
+/* Leaves interfaces out until the rest fits; the coclasses' defaults come first, then their
+ * others. */
 static void fit(size_t used)
 {
     size_t room = TEXT_LIMIT > used ? TEXT_LIMIT - used : 0, i, count = 0;
@@ -1188,7 +1316,8 @@ static void fit(size_t used)
 
     for (i = 0; i < library.coclass_count; i++)
         if (!library.coclasses[i].is_left)
-            room = library.coclasses[i].text.length < room ? room - library.coclasses[i].text.length : 0;
+            room = library.coclasses[i].text.length < room ? room - library.coclasses[i].text.length
+                                                           : 0;
     for (rank = 0; rank < 3; rank++)
         for (i = 0; i < library.interface_count; i++) {
             Interface *one = &library.interfaces[i];
@@ -1300,7 +1429,8 @@ static Text text_of(ITypeLib *of)
     add(&text, "}\n");
     if (!interfaces)
         fail("nothing of the library is kept");
-    add(&given.report, "%lu interfaces, %lu coclasses, %lu members kept; %lu lines of what is left out\n",
+    add(&given.report,
+        "%lu interfaces, %lu coclasses, %lu members kept; %lu lines of what is left out\n",
         (unsigned long)interfaces, (unsigned long)coclasses, (unsigned long)members, given.left);
     return text;
 }
@@ -1351,8 +1481,9 @@ static DWORD WINAPI work(void *unused)
         char why[64];
 
         snprintf(why, sizeof why, "%s (0x%08lX)",
-                 result == TYPE_E_CANTLOADLIBRARY || result == (HRESULT)0x80070002 ? "not there, or no type library"
-                                                                                   : "not read",
+                 result == TYPE_E_CANTLOADLIBRARY || result == (HRESULT)0x80070002
+                     ? "not there, or no type library"
+                     : "not read",
                  (unsigned long)result);
         fail(why);
     }
@@ -1367,8 +1498,8 @@ static DWORD WINAPI work(void *unused)
     return 0;
 }
 
-/* Ends this process after a crash of the system's reader, with a line. It takes no lock and no memory: the crash may have
-   left both in any state. */
+/* Ends this process after a crash of the system's reader, with a line. It takes no lock and no
+   memory: the crash may have left both in any state. */
 static void end_after_crash(const char *code)
 {
     const char *parts[] = {"tlb2idl: ", given.path, ": the system's reader crashed", code, "\n"};
@@ -1400,7 +1531,9 @@ static const char *utf8(const WCHAR *wide)
 
 static int usage(void)
 {
-    fputs("usage: tlb2idl FILE [-o OUT.idl] [--double=DECIMAL] [--date=CY|BSTR] [--only=COCLASS]..\n", stderr);
+    fputs(
+        "usage: tlb2idl FILE [-o OUT.idl] [--double=DECIMAL] [--date=CY|BSTR] [--only=COCLASS]..\n",
+        stderr);
     return 2;
 }
 
@@ -1437,7 +1570,8 @@ int wmain(int count, WCHAR **words)
         fail("out of memory");
     if (WaitForSingleObject(worker, SECONDS * 1000) != WAIT_OBJECT_0)
         fail("the system's reader does not come to an end");
-    if (!is_done) /* after a stack overflow the system may end the thread without a call of on_crash */
+    /* after a stack overflow the system may end the thread without a call of on_crash */
+    if (!is_done)
         end_after_crash("");
     return 0;
 }

@@ -7,21 +7,25 @@ UINT32 width_of(VARTYPE type)
 {
     switch (type) {
     case VT_I1:
-    case VT_UI1: return 1;
+    case VT_UI1:
+        return 1;
     case VT_I2:
     case VT_UI2:
-    case VT_BOOL: return 2;
+    case VT_BOOL:
+        return 2;
     case VT_I4:
     case VT_UI4:
     case VT_INT:
     case VT_UINT:
     case VT_ERROR:
-    case VT_R4: return 4;
+    case VT_R4:
+        return 4;
     case VT_I8:
     case VT_UI8:
     case VT_CY:
     case VT_R8:
-    case VT_DATE: return 8;
+    case VT_DATE:
+        return 8;
     }
     return 0;
 }
@@ -50,8 +54,9 @@ const VARIANT *value_behind(const VARIANT *value, VARIANT *room)
     else if (type == VT_DISPATCH || type == VT_UNKNOWN)
         V_BYREF(room) = *(void *const *)at; /* a pointer, as V_DISPATCH and V_UNKNOWN are */
     else
-        memcpy(&V_UI8(room), at, width_of(type)); /* the numbers of the union begin at one place */
-    V_VT(room) = type;                            /* last: a DECIMAL's first two bytes are the vt */
+        /* the numbers of the union begin at one place */
+        memcpy(&V_UI8(room), at, width_of(type));
+    V_VT(room) = type; /* last: a DECIMAL's first two bytes are the vt */
     return room;
 }
 
@@ -59,15 +64,29 @@ BOOL whole_number(const VARIANT *value, INT64 *number, BOOL *large)
 {
     *large = FALSE;
     switch (V_VT(value)) {
-    case VT_I1: *number = (signed char)V_UI1(value); return TRUE;
-    case VT_UI1: *number = V_UI1(value); return TRUE;
-    case VT_I2: *number = V_I2(value); return TRUE;
-    case VT_UI2: *number = V_UI2(value); return TRUE;
+    case VT_I1:
+        *number = (signed char)V_UI1(value);
+        return TRUE;
+    case VT_UI1:
+        *number = V_UI1(value);
+        return TRUE;
+    case VT_I2:
+        *number = V_I2(value);
+        return TRUE;
+    case VT_UI2:
+        *number = V_UI2(value);
+        return TRUE;
     case VT_I4:
-    case VT_INT: *number = V_I4(value); return TRUE;
+    case VT_INT:
+        *number = V_I4(value);
+        return TRUE;
     case VT_UI4:
-    case VT_UINT: *number = V_UI4(value); return TRUE;
-    case VT_I8: *number = V_I8(value); return TRUE;
+    case VT_UINT:
+        *number = V_UI4(value);
+        return TRUE;
+    case VT_I8:
+        *number = V_I8(value);
+        return TRUE;
     case VT_UI8:
         *number = V_I8(value);
         *large = *number < 0;
@@ -76,7 +95,8 @@ BOOL whole_number(const VARIANT *value, INT64 *number, BOOL *large)
     return FALSE;
 }
 
-/* ---- whole numbers of many limbs, the lowest first: 192 bits hold 2^53 * 10^28 and what it is compared with */
+/* ---- whole numbers of many limbs, the lowest first: 192 bits hold 2^53 * 10^28 and what it is
+ * compared with */
 
 #define LIMBS 6
 
@@ -198,7 +218,8 @@ static Big bits_below(const Big *number, int bit)
 typedef struct Floating {
     UINT64 mantissa;
     int exponent;
-    BOOL is_negative, is_power; /* the mantissa is the least one, so that the number below is nearer than that above */
+    /* the mantissa is the least one, so that the number below is nearer than that above */
+    BOOL is_negative, is_power;
 } Floating;
 
 /* Divides a number into its parts; FALSE if it is infinite or not a number. */
@@ -253,7 +274,8 @@ static BOOL magnitude_of(const Floating *parts, UINT32 *high, UINT64 *low)
     return !bits_from(&number, 96);
 }
 
-/* Whether a decimal that is off by this much, in units of 1 / (2^shift * 10^places), reads back as the number. */
+/* Whether a decimal that is off by this much, in units of 1 / (2^shift * 10^places), reads back as
+ * the number. */
 static BOOL reads_back(const Floating *parts, const Big *off, BOOL is_below, const Big *power)
 {
     Big twice = *off;
@@ -264,8 +286,8 @@ static BOOL reads_back(const Floating *parts, const Big *off, BOOL is_below, con
     return order < 0 || (order == 0 && !(parts->mantissa & 1));
 }
 
-/* The shortest decimal that reads back as the same number, which is not whole, as digits / 10^places, and of these the nearest. FALSE if it
- * needs more places than a DECIMAL has. */
+/* The shortest decimal that reads back as the same number, which is not whole, as digits /
+ * 10^places, and of these the nearest. FALSE if it needs more places than a DECIMAL has. */
 static BOOL shortest_decimal(const Floating *parts, UINT64 *digits, BYTE *places)
 {
     Big scaled = big_of(parts->mantissa), power = big_of(1), one;
@@ -286,7 +308,8 @@ static BOOL shortest_decimal(const Floating *parts, UINT64 *digits, BYTE *places
         below = bits_below(&scaled, shift);
         above = difference(&one, &below);
         order = compare(&below, &above);
-        is_below = order < 0 || (order == 0 && !(*digits & 1)); /* of two that are as near the even one */
+        /* of two that are as near the even one */
+        is_below = order < 0 || (order == 0 && !(*digits & 1));
         if (!reads_back(parts, is_below ? &below : &above, is_below, &power)) {
             is_below = !is_below;
             if (!reads_back(parts, is_below ? &below : &above, is_below, &power))
@@ -425,7 +448,8 @@ static void shorten(Decimal *number)
 /* As a whole number in the narrowest of I4, I8 and DECIMAL. */
 static void make_whole(VARIANT *made, const Decimal *number)
 {
-    UINT64 low = bits_from(&number->digits, 0), most = (UINT64)INT64_MAX + (number->is_negative ? 1 : 0);
+    UINT64 low = bits_from(&number->digits, 0),
+           most = (UINT64)INT64_MAX + (number->is_negative ? 1 : 0);
     INT64 signed_low = (INT64)(number->is_negative ? 0 - low : low);
 
     if (number->digits.limbs[2] || low > most) {
@@ -450,8 +474,8 @@ static BOOL append(Decimal *number, UINT32 digit)
     return !number->digits.limbs[3] && !number->digits.limbs[4] && !number->digits.limbs[5];
 }
 
-/* The number that a text is; S_FALSE if it is none. It has the places that it was written with, but for zeros at its end
-   that a DECIMAL has no room for. */
+/* The number that a text is; S_FALSE if it is none. It has the places that it was written with, but
+   for zeros at its end that a DECIMAL has no room for. */
 static HRESULT parse_text(const WCHAR *at, UINT32 units, Decimal *number)
 {
     const WCHAR *end = at + units;
@@ -494,7 +518,8 @@ static HRESULT parse_text(const WCHAR *at, UINT32 units, Decimal *number)
 
 static BOOL is_number_type(VARTYPE type)
 {
-    return type == VT_DECIMAL || (width_of(type) && type != VT_BOOL && type != VT_ERROR && type != VT_DATE);
+    return type == VT_DECIMAL ||
+           (width_of(type) && type != VT_BOOL && type != VT_ERROR && type != VT_DATE);
 }
 
 HRESULT text_as(const VARIANT *value, VARTYPE declared, VARIANT *made)
@@ -507,9 +532,10 @@ HRESULT text_as(const VARIANT *value, VARTYPE declared, VARIANT *made)
         return S_FALSE;
     if ((result = parse_text(V_BSTR(value), SysStringByteLen(V_BSTR(value)) / 2, &number)) != S_OK)
         return result;
-    if (declared == VT_DECIMAL && number.places <= MAX_PLACES) { /* with the places that it was written with */
-        make_decimal(made, number.digits.limbs[2], bits_from(&number.digits, 0), (BYTE)number.places,
-                     number.is_negative);
+    /* with the places that it was written with */
+    if (declared == VT_DECIMAL && number.places <= MAX_PLACES) {
+        make_decimal(made, number.digits.limbs[2], bits_from(&number.digits, 0),
+                     (BYTE)number.places, number.is_negative);
         return S_OK;
     }
     shorten(&number);
@@ -576,12 +602,16 @@ static BOOL fit_number(INT64 *number, BOOL large, VARTYPE type)
             return FALSE;
         *number *= 10000;
         return TRUE;
-    case VT_UI8: return large || *number >= 0;
-    case VT_I8: return !large;
+    case VT_UI8:
+        return large || *number >= 0;
+    case VT_I8:
+        return !large;
     case VT_I1:
     case VT_I2:
     case VT_I4:
-    case VT_INT: least = -((INT64)1 << (bits - 1)); bits--;
+    case VT_INT:
+        least = -((INT64)1 << (bits - 1));
+        bits--;
     }
     most = ((INT64)1 << bits) - 1;
     return !large && *number >= least && *number <= most;
@@ -700,7 +730,8 @@ HRESULT make_scriptable(VARIANT *value, int how)
         decimal = decimal_of(&V_DECIMAL(value));
         return make_for_jscript(value, &decimal);
     }
-    if (V_VT(value) == VT_UI1 || V_VT(value) == VT_I2 || V_VT(value) == VT_I4 || !whole_number(value, &number, &large))
+    if (V_VT(value) == VT_UI1 || V_VT(value) == VT_I2 || V_VT(value) == VT_I4 ||
+        !whole_number(value, &number, &large))
         return S_OK;
     minus = !large && number < 0;
     if (!large && number == (INT32)number) {
@@ -720,8 +751,8 @@ HRESULT make_scriptable(VARIANT *value, int how)
 
 /* ---- the cell of an array that is at fault */
 
-HRESULT find_misfit(const SAFEARRAY *array, VARTYPE own, VARTYPE declared, int how, UINT32 *place, const VARIANT **cell,
-                    VARIANT *room)
+HRESULT find_misfit(const SAFEARRAY *array, VARTYPE own, VARTYPE declared, int how, UINT32 *place,
+                    const VARIANT **cell, VARIANT *room)
 {
     VARTYPE wanted = declared & (VARTYPE)~VT_ARRAY;
     UINT32 count = array && array->pvData ? 1 : 0, i;
@@ -738,7 +769,8 @@ HRESULT find_misfit(const SAFEARRAY *array, VARTYPE own, VARTYPE declared, int h
                 return S_OK;
         } else {
             memset(room, 0, sizeof *room);
-            memcpy(&V_UI8(room), (const BYTE *)array->pvData + (size_t)i * width_of(own), width_of(own));
+            memcpy(&V_UI8(room), (const BYTE *)array->pvData + (size_t)i * width_of(own),
+                   width_of(own));
             V_VT(room) = own;
             *cell = room;
         }

@@ -186,8 +186,8 @@ static HRESULT next_change(Watch *watch, ULONGLONG until, INT64 *object)
 
     *object = watch->next;
     watch->next = NO_OBJECT;
-    if (*object == NO_OBJECT &&
-        ((result = have_line(watch, until)) != S_OK || FAILED(result = object_of_line(watch, object))))
+    if (*object == NO_OBJECT && ((result = have_line(watch, until)) != S_OK ||
+                                 FAILED(result = object_of_line(watch, object))))
         return result;
     for (i = 0; i < PASSED_OVER && have_line(watch, 0) == S_OK; i++) {
         if (FAILED(result = object_of_line(watch, &watch->next)))
@@ -237,7 +237,8 @@ static HRESULT have_connection(Watch *watch, ULONGLONG until)
         size = sizeof cause;
         if (getsockopt(watch->socket, SOL_SOCKET, SO_ERROR, (char *)&cause, &size))
             cause = WSAGetLastError();
-        if (!cause && FD_ISSET(watch->socket, &connected) && !ioctlsocket(watch->socket, (long)FIONBIO, &is_on)) {
+        if (!cause && FD_ISSET(watch->socket, &connected) &&
+            !ioctlsocket(watch->socket, (long)FIONBIO, &is_on)) {
             keep_address(&watch->reached, watch->address);
             free_addresses(&watch->addresses);
             return S_OK;
@@ -276,7 +277,8 @@ HRESULT ask_gateway(Watch *watch, const Settings *settings, const char *line, UL
 {
     HRESULT result;
 
-    if (!find_addresses(settings, settings->watch, &watch->addresses, &watch->cause) || FAILED(dial_next(watch)))
+    if (!find_addresses(settings, settings->watch, &watch->addresses, &watch->cause) ||
+        FAILED(dial_next(watch)))
         return OAUT_E_NOT_REACHED;
     result = have_connection(watch, until);
     return result == S_OK ? send_line(watch, line) : result;
@@ -289,7 +291,8 @@ static HRESULT begin(Watch *watch, const Settings *settings, REFGUID coclass, UL
 
     if (watch->state == NOT_BEGUN) {
         watch->deadline = settings->timeout ? GetTickCount64() + settings->timeout : MAXULONGLONG;
-        if (!find_addresses(settings, settings->watch, &watch->addresses, &watch->cause) || FAILED(dial_next(watch)))
+        if (!find_addresses(settings, settings->watch, &watch->addresses, &watch->cause) ||
+            FAILED(dial_next(watch)))
             return OAUT_E_NOT_REACHED;
         watch->state = DIALS;
     }
@@ -313,8 +316,8 @@ static HRESULT begin(Watch *watch, const Settings *settings, REFGUID coclass, UL
     return result;
 }
 
-HRESULT wait_for_change(Watch *watch, const Settings *settings, REFGUID coclass, DWORD milliseconds, INT64 *object,
-                        int *cause)
+HRESULT wait_for_change(Watch *watch, const Settings *settings, REFGUID coclass, DWORD milliseconds,
+                        INT64 *object, int *cause)
 {
     ULONGLONG until = GetTickCount64() + milliseconds;
     HRESULT result = OAUT_E_NOT_REACHED;

@@ -1,5 +1,6 @@
-/* The window of oautreg: name, address, a test of the connection, what is registered, removal and repair. Each button runs
-   a command of the command line on a thread of its own, and shows what it prints. */
+/* The window of oautreg: name, address, a test of the connection, what is registered, removal and
+   repair. Each button runs a command of the command line on a thread of its own, and shows what it
+   prints. */
 #include "oautreg.h"
 #include "window.h"
 
@@ -14,7 +15,8 @@
 
 static HWND window;
 static BOOL is_changing; /* whether a command runs that changes what is registered */
-static BOOL is_closing;  /* then the window closes after the command: no registration is left half entered */
+/* then the window closes after the command: no registration is left half entered */
+static BOOL is_closing;
 
 /* ---- what is registered, a name each */
 
@@ -50,7 +52,8 @@ static void add_entry(const Entry *entry, void *with)
         name_count++;
     }
     if (entry->host[0] && entry->port[0])
-        _snwprintf(name->address, 299, wcschr(entry->host, L':') ? L"[%ls]:%ls" : L"%ls:%ls", entry->host, entry->port);
+        _snwprintf(name->address, 299, wcschr(entry->host, L':') ? L"[%ls]:%ls" : L"%ls:%ls",
+                   entry->host, entry->port);
     name->is_whole = name->is_whole && entry->is_whole;
     name->classes[entry->bits == 32]++;
 }
@@ -69,12 +72,14 @@ static void describe(const Name *name, WCHAR line[MOST])
     WCHAR classes[80];
 
     if (name->classes[0] && name->classes[1])
-        swprintf(classes, ARRAYSIZE(classes), L"%d classes for 64 bits, %d for 32", name->classes[0], name->classes[1]);
+        swprintf(classes, ARRAYSIZE(classes), L"%d classes for 64 bits, %d for 32",
+                 name->classes[0], name->classes[1]);
     else
-        swprintf(classes, ARRAYSIZE(classes), L"%d classes for %d bits", name->classes[0] + name->classes[1],
-                 name->classes[0] ? 64 : 32);
-    _snwprintf(line, MOST - 1, L"%ls, %ls, %ls, %ls%ls", name->name[0] ? name->name : L"(no name)", name->address,
-               name->all_users ? L"all users" : L"you alone", classes, name->is_whole ? L"" : L", damaged: repair it");
+        swprintf(classes, ARRAYSIZE(classes), L"%d classes for %d bits",
+                 name->classes[0] + name->classes[1], name->classes[0] ? 64 : 32);
+    _snwprintf(line, MOST - 1, L"%ls, %ls, %ls, %ls%ls", name->name[0] ? name->name : L"(no name)",
+               name->address, name->all_users ? L"all users" : L"you alone", classes,
+               name->is_whole ? L"" : L", damaged: repair it");
     line[MOST - 1] = 0;
 }
 
@@ -184,7 +189,8 @@ static BOOL is_checked(int part)
     return IsDlgButtonChecked(window, part) == BST_CHECKED;
 }
 
-/* The text of a field, without blanks around it; FALSE, and a line that says so, if there is none. */
+/* The text of a field, without blanks around it; FALSE, and a line that says so, if there is
+ * none. */
 static BOOL text_in(int part, const WCHAR *missing, WCHAR text[300])
 {
     WCHAR given[300], *at = given;
@@ -208,7 +214,8 @@ static void test_server(void)
     Command *command;
     WCHAR address[300];
 
-    if (!text_in(WINDOW_ADDRESS, L"give the server's host and port, such as localhost:8765", address) ||
+    if (!text_in(WINDOW_ADDRESS, L"give the server's host and port, such as localhost:8765",
+                 address) ||
         !(command = calloc(1, sizeof *command)))
         return;
     add_word(command, L"test");
@@ -218,13 +225,15 @@ static void test_server(void)
 
 static void add_server(void)
 {
-    static const WCHAR *const scripts[] = {L"1", L"2", L"0"}; /* in the order of the field's lines */
+    /* in the order of the field's lines */
+    static const WCHAR *const scripts[] = {L"1", L"2", L"0"};
     LRESULT values = SendDlgItemMessageW(window, WINDOW_VALUES, CB_GETCURSEL, 0, 0);
     WCHAR name[300], address[300];
     Command *command;
 
     if (!text_in(WINDOW_NAME, L"give a name: letters, digits and _", name) ||
-        !text_in(WINDOW_ADDRESS, L"give the server's host and port, such as localhost:8765", address) ||
+        !text_in(WINDOW_ADDRESS, L"give the server's host and port, such as localhost:8765",
+                 address) ||
         !(command = calloc(1, sizeof *command)))
         return;
     add_word(command, L"add");
@@ -282,7 +291,8 @@ static void close_window(void)
 
 static void begin(void)
 {
-    static const WCHAR *const values[] = {L"VBScript, VBA, Excel", L"JScript", L"C: as the server has them"};
+    static const WCHAR *const values[] = {L"VBScript, VBA, Excel", L"JScript",
+                                          L"C: as the server has them"};
     size_t i;
 
     for (i = 0; i < ARRAYSIZE(values); i++)
@@ -299,7 +309,9 @@ static INT_PTR CALLBACK on_message(HWND self, UINT message, WPARAM word, LPARAM 
         window = self;
         begin();
         return TRUE;
-    case HAS_LINE: show_line((const WCHAR *)more); return TRUE;
+    case HAS_LINE:
+        show_line((const WCHAR *)more);
+        return TRUE;
     case HAS_ENDED:
         is_changing = FALSE;
         fill_list();
@@ -307,20 +319,33 @@ static INT_PTR CALLBACK on_message(HWND self, UINT message, WPARAM word, LPARAM 
         if (is_closing)
             close_window();
         return TRUE;
-    case WM_COMMAND: break;
-    default: return FALSE;
+    case WM_COMMAND:
+        break;
+    default:
+        return FALSE;
     }
     switch (LOWORD(word)) {
-    case WINDOW_TEST: test_server(); break;
-    case WINDOW_ADD: add_server(); break;
-    case WINDOW_REPAIR: change_chosen(L"repair"); break;
-    case WINDOW_REMOVE: change_chosen(L"remove"); break;
+    case WINDOW_TEST:
+        test_server();
+        break;
+    case WINDOW_ADD:
+        add_server();
+        break;
+    case WINDOW_REPAIR:
+        change_chosen(L"repair");
+        break;
+    case WINDOW_REMOVE:
+        change_chosen(L"remove");
+        break;
     case WINDOW_LIST:
         if (HIWORD(word) == LBN_SELCHANGE)
             show_chosen();
         break;
-    case IDCANCEL: close_window(); break;
-    default: return FALSE;
+    case IDCANCEL:
+        close_window();
+        break;
+    default:
+        return FALSE;
     }
     return TRUE;
 }
@@ -328,5 +353,8 @@ static INT_PTR CALLBACK on_message(HWND self, UINT message, WPARAM word, LPARAM 
 int show_window(void)
 {
     listen_to_lines(on_line);
-    return DialogBoxParamW(GetModuleHandleW(NULL), MAKEINTRESOURCEW(WINDOW_DIALOG), NULL, on_message, 0) ? 1 : 0;
+    return DialogBoxParamW(GetModuleHandleW(NULL), MAKEINTRESOURCEW(WINDOW_DIALOG), NULL,
+                           on_message, 0)
+               ? 1
+               : 0;
 }

@@ -23,7 +23,8 @@ void writer_free(Writer *to)
     memset(to, 0, sizeof *to);
 }
 
-/* Space for `count` more bytes; NULL if that fails, or after an earlier fault. The length is never above body + MAX_BODY. */
+/* Space for `count` more bytes; NULL if that fails, or after an earlier fault. The length is never
+ * above body + MAX_BODY. */
 static BYTE *extend(Writer *to, size_t count)
 {
     BYTE *bytes;
@@ -96,10 +97,12 @@ static BOOL is_scalar(VARTYPE type)
     case VT_EMPTY:
     case VT_NULL:
     case VT_BSTR:
-    case VT_DECIMAL: return TRUE;
+    case VT_DECIMAL:
+        return TRUE;
     case VT_R4:
     case VT_R8:
-    case VT_DATE: return FALSE;
+    case VT_DATE:
+        return FALSE;
     }
     return width_of(type) != 0;
 }
@@ -123,10 +126,18 @@ static Cells cells_of(VARTYPE type)
     if (type == VT_ERROR || !is_scalar(type))
         return cells;
     switch (cells.bytes) {
-    case 1: cells.form = 0x10; break;
-    case 2: cells.form = 2; break;
-    case 4: cells.form = 3; break;
-    case 8: cells.form = 0x14; break;
+    case 1:
+        cells.form = 0x10;
+        break;
+    case 2:
+        cells.form = 2;
+        break;
+    case 4:
+        cells.form = 3;
+        break;
+    case 8:
+        cells.form = 0x14;
+        break;
     }
     return cells;
 }
@@ -217,8 +228,9 @@ static void write_texts(Writer *to, const BSTR *texts, UINT32 count)
             write_text(to, texts[i]);
 }
 
-/* Whether cells have the type of their VARIANT. Numbers are compared only by their width, since a host may call a Long an INT. A cell is
- * followed as a pointer only if the array itself, if it has a type, says that it is one. */
+/* Whether cells have the type of their VARIANT. Numbers are compared only by their width, since a
+ * host may call a Long an INT. A cell is followed as a pointer only if the array itself, if it has
+ * a type, says that it is one. */
 static BOOL holds_cells(const SAFEARRAY *array, VARTYPE type, size_t width)
 {
     VARTYPE own;
@@ -229,8 +241,8 @@ static BOOL holds_cells(const SAFEARRAY *array, VARTYPE type, size_t width)
            (SUCCEEDED(SafeArrayGetVartype((SAFEARRAY *)array, &own)) && own == type);
 }
 
-/* Checks that the cells of an array can be written; `count` is their number. A null pointer is an array without
-   cells. */
+/* Checks that the cells of an array can be written; `count` is their number. A null pointer is an
+   array without cells. */
 static HRESULT check_array(const SAFEARRAY *array, VARTYPE type, size_t width, UINT32 *count)
 {
     *count = 0;
@@ -242,8 +254,9 @@ static HRESULT check_array(const SAFEARRAY *array, VARTYPE type, size_t width, U
     return *count > MAX_CELLS || (*count && !array->pvData) ? E_INVALIDARG : S_OK;
 }
 
-/* All of an array before its cells. The bounds are in the order of memory: rgsabound has the leftmost dimension last. So
-   are the cells: in memory the last of rgsabound counts fastest, on the wire the last that is listed. */
+/* All of an array before its cells. The bounds are in the order of memory: rgsabound has the
+   leftmost dimension last. So are the cells: in memory the last of rgsabound counts fastest, on the
+   wire the last that is listed. */
 static void write_array_head(Writer *to, VARTYPE type, const SAFEARRAY *array, UINT32 count)
 {
     static const SAFEARRAYBOUND nothing = {0, 0};
@@ -269,8 +282,9 @@ static void write_array_head(Writer *to, VARTYPE type, const SAFEARRAY *array, U
 typedef struct Source {
     const SAFEARRAY *array;
     VARTYPE own;
-    VARTYPE wanted; /* the type that they are written with; that of a VARIANT takes any scalar */
-    int how;        /* for scripts floating-point numbers go as what they are exactly */
+    /* the type that they are written with; that of a VARIANT takes any scalar */
+    VARTYPE wanted;
+    int how; /* for scripts floating-point numbers go as what they are exactly */
 } Source;
 
 /* What is written of a cell. */
@@ -292,7 +306,8 @@ static HRESULT cell_at(const Source *source, UINT32 i, VARIANT *made)
         V_VT(&room) = source->own;
         cell = &room;
     }
-    if ((source->how & WITH_TEXTS) && (result = text_as(cell, source->wanted, &number)) != S_FALSE) {
+    if ((source->how & WITH_TEXTS) &&
+        (result = text_as(cell, source->wanted, &number)) != S_FALSE) {
         if (FAILED(result))
             return result;
         cell = &number;
@@ -302,7 +317,8 @@ static HRESULT cell_at(const Source *source, UINT32 i, VARIANT *made)
     if (source->how && (result = number_as(cell, VT_VARIANT, made)) != S_FALSE)
         return result;
     *made = *cell;
-    return is_scalar(V_VT(cell)) ? S_OK : DISP_E_BADVARTYPE; /* a server says bad stub data, without the argument */
+    /* a server says bad stub data, without the argument */
+    return is_scalar(V_VT(cell)) ? S_OK : DISP_E_BADVARTYPE;
 }
 
 static HRESULT write_cells(Writer *to, const Source *source, UINT32 count)
@@ -359,8 +375,10 @@ static HRESULT write_array(Writer *to, VARTYPE type, const SAFEARRAY *array)
     return result;
 }
 
-/* An array of VARIANT, VT_R4 or VT_R8, with its cells converted to another type. Nothing is written if one cannot be converted. */
-static HRESULT write_array_as(Writer *to, VARTYPE own, const SAFEARRAY *array, VARTYPE wanted, int how)
+/* An array of VARIANT, VT_R4 or VT_R8, with its cells converted to another type. Nothing is written
+ * if one cannot be converted. */
+static HRESULT write_array_as(Writer *to, VARTYPE own, const SAFEARRAY *array, VARTYPE wanted,
+                              int how)
 {
     Source source = {array, own, wanted, how};
     size_t head = to->length;
@@ -597,8 +615,9 @@ static HRESULT read_scalar(Reader *from, VARIANT *value)
     return S_OK;
 }
 
-/* An array of zeros, its bounds in the order of rgsabound. It is made by SafeArrayCreate, which takes them the other
-   way round: what SafeArrayAllocDescriptorEx makes has no FADF_BSTR and FADF_VARIANT, so nobody frees its cells. */
+/* An array of zeros, its bounds in the order of rgsabound. It is made by SafeArrayCreate, which
+   takes them the other way round: what SafeArrayAllocDescriptorEx makes has no FADF_BSTR and
+   FADF_VARIANT, so nobody frees its cells. */
 static SAFEARRAY *new_array(VARTYPE type, UINT32 dimensions, const SAFEARRAYBOUND *bounds)
 {
     SAFEARRAYBOUND turned[MAX_BOUNDS];
@@ -659,7 +678,8 @@ static void read_numbers(Reader *from, VARTYPE type, void *data, UINT32 count, U
 }
 
 /* Reads cells into an array of VARIANT, whose numbers get types that scripts have. */
-static HRESULT read_numbers_as_variants(Reader *from, VARTYPE type, VARIANT *cells, UINT32 count, UINT32 width, int how)
+static HRESULT read_numbers_as_variants(Reader *from, VARTYPE type, VARIANT *cells, UINT32 count,
+                                        UINT32 width, int how)
 {
     HRESULT result = S_OK;
     UINT32 i;
@@ -676,7 +696,8 @@ static HRESULT read_numbers_as_variants(Reader *from, VARTYPE type, VARIANT *cel
     return result;
 }
 
-/* A wireVARIANT that is an array, from its discriminant on; for scripts it becomes one of VARIANT. */
+/* A wireVARIANT that is an array, from its discriminant on; for scripts it becomes one of
+ * VARIANT. */
 static HRESULT read_array(Reader *from, VARTYPE type, int how, VARIANT *value)
 {
     VARTYPE made = how ? VT_VARIANT : type;
@@ -695,8 +716,9 @@ static HRESULT read_array(Reader *from, VARTYPE type, int how, VARIANT *value)
     form = read_32(from);
     count = read_32(from);
     read_past(from, 4);
-    if (from->bad || (discriminant != VT_ARRAY && discriminant != (UINT32)(type | VT_ARRAY)) || referents != 2 ||
-        dimensions < 1 || dimensions > MAX_BOUNDS || most != dimensions || !cells.form || form != cells.form)
+    if (from->bad || (discriminant != VT_ARRAY && discriminant != (UINT32)(type | VT_ARRAY)) ||
+        referents != 2 || dimensions < 1 || dimensions > MAX_BOUNDS || most != dimensions ||
+        !cells.form || form != cells.form)
         return OAUT_E_NO_REPLY;
     read_bytes(from, bounds, dimensions * sizeof *bounds);
     if (read_32(from) != count || count > MAX_CELLS || count_cells(bounds, dimensions) != count)

@@ -111,7 +111,7 @@ class Written(UnderWine):
 
     def test_nothing_stays_of_a_file_that_cannot_be_written(self):
         """By a planted fault: the file does not get its name."""
-        unnamed = ("registration.c", [(" && MoveFileExW(made, file, MOVEFILE_REPLACE_EXISTING)", " && file[0] == 0")])
+        unnamed = ("registration.c", [("MoveFileExW(made, file, MOVEFILE_REPLACE_EXISTING)", "file[0] == 0")])
         for room, build in all_planted({"a file gets no name": unnamed}, "build.sh").values():
             with room:
                 self.same("the build", build, (0, ""))

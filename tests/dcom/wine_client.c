@@ -1,6 +1,8 @@
-/* wine_client HOST PORT SERVICE LEVEL IPID TYPE LIBRARY COMP: IDispatch, ITypeInfo, ITypeLib and ITypeComp by Wine's own proxy (oleaut32) and Wine's
-   own RPC (rpcrt4), with ORPCTHIS by hand, since Wine has no remote activation. Left out are three forms that are Wine's own: a BSTR of 3 bytes,
-   which comes back as 4, and arrays of BSTR and VARIANT, which Wine sends without referents. Prints a line for each case. */
+/* wine_client HOST PORT SERVICE LEVEL IPID TYPE LIBRARY COMP: IDispatch, ITypeInfo, ITypeLib and
+   ITypeComp by Wine's own proxy (oleaut32) and Wine's own RPC (rpcrt4), with ORPCTHIS by hand,
+   since Wine has no remote activation. Left out are three forms that are Wine's own: a BSTR of 3
+   bytes, which comes back as 4, and arrays of BSTR and VARIANT, which Wine sends without referents.
+   Prints a line for each case. */
 #define COBJMACROS
 #include <windows.h>
 #include <rpc.h>
@@ -10,26 +12,36 @@
 #include <stdio.h>
 
 static RPC_BINDING_HANDLE binding;
-static RPC_CLIENT_INTERFACE client = {sizeof client,
-                                      {{0}, {0, 0}},
-                                      {{0x8a885d04, 0x1ceb, 0x11c9, {0x9f, 0xe8, 0x08, 0x00, 0x2b, 0x10, 0x48, 0x60}}, {2, 0}},
-                                      NULL,
-                                      0,
-                                      NULL,
-                                      0,
-                                      NULL,
-                                      0};
+static RPC_CLIENT_INTERFACE client = {
+    sizeof client,
+    {{0}, {0, 0}},
+    {{0x8a885d04, 0x1ceb, 0x11c9, {0x9f, 0xe8, 0x08, 0x00, 0x2b, 0x10, 0x48, 0x60}}, {2, 0}},
+    NULL,
+    0,
+    NULL,
+    0,
+    NULL,
+    0};
+
 typedef struct {
     IRpcChannelBuffer face;
     LONG refs;
     RPC_MESSAGE msg;
 } Channel;
-static HRESULT WINAPI ch_qi(IRpcChannelBuffer *s, REFIID iid, void **out) {
+
+static HRESULT WINAPI ch_qi(IRpcChannelBuffer *s, REFIID iid, void **out)
+{
     *out = s;
     return S_OK;
 }
-static ULONG WINAPI ch_ref(IRpcChannelBuffer *s) { return 2; }
-static HRESULT WINAPI ch_get(IRpcChannelBuffer *s, RPCOLEMESSAGE *m, REFIID iid) {
+
+static ULONG WINAPI ch_ref(IRpcChannelBuffer *s)
+{
+    return 2;
+}
+
+static HRESULT WINAPI ch_get(IRpcChannelBuffer *s, RPCOLEMESSAGE *m, REFIID iid)
+{
     Channel *c = (Channel *)s;
     unsigned char *b;
     RPC_STATUS st;
@@ -55,7 +67,9 @@ static HRESULT WINAPI ch_get(IRpcChannelBuffer *s, RPCOLEMESSAGE *m, REFIID iid)
     m->dataRepresentation = c->msg.DataRepresentation;
     return S_OK;
 }
-static HRESULT WINAPI ch_send(IRpcChannelBuffer *s, RPCOLEMESSAGE *m, ULONG *status) {
+
+static HRESULT WINAPI ch_send(IRpcChannelBuffer *s, RPCOLEMESSAGE *m, ULONG *status)
+{
     Channel *c = (Channel *)s;
     RPC_STATUS st;
     c->msg.BufferLength = m->cbBuffer + 32;
@@ -70,60 +84,89 @@ static HRESULT WINAPI ch_send(IRpcChannelBuffer *s, RPCOLEMESSAGE *m, ULONG *sta
     m->dataRepresentation = c->msg.DataRepresentation;
     return S_OK;
 }
-static HRESULT WINAPI ch_free(IRpcChannelBuffer *s, RPCOLEMESSAGE *m) {
+
+static HRESULT WINAPI ch_free(IRpcChannelBuffer *s, RPCOLEMESSAGE *m)
+{
     Channel *c = (Channel *)s;
     c->msg.Buffer = NULL;
     return S_OK;
 }
-static HRESULT WINAPI ch_ctx(IRpcChannelBuffer *s, DWORD *ctx, void **p) {
+
+static HRESULT WINAPI ch_ctx(IRpcChannelBuffer *s, DWORD *ctx, void **p)
+{
     *ctx = MSHCTX_DIFFERENTMACHINE;
-    if (p) *p = NULL;
+    if (p)
+        *p = NULL;
     return S_OK;
 }
-static HRESULT WINAPI ch_conn(IRpcChannelBuffer *s) { return S_OK; }
-static const IRpcChannelBufferVtbl vt = {ch_qi, ch_ref, ch_ref, ch_get, ch_send, ch_free, ch_ctx, ch_conn};
+
+static HRESULT WINAPI ch_conn(IRpcChannelBuffer *s)
+{
+    return S_OK;
+}
+
+static const IRpcChannelBufferVtbl vt = {ch_qi,   ch_ref,  ch_ref, ch_get,
+                                         ch_send, ch_free, ch_ctx, ch_conn};
 static Channel channel = {{(IRpcChannelBufferVtbl *)&vt}};
 static IDispatch *d;
 static int fails;
-static void ok(const char *what, int good) {
+
+static void ok(const char *what, int good)
+{
     printf("%s\t%s\n", good ? "ok" : "FAIL", what);
     fails += !good;
     fflush(stdout);
 }
-static HRESULT put(DISPID id, VARIANT *args, UINT n, EXCEPINFO *e, UINT *err) {
+
+static HRESULT put(DISPID id, VARIANT *args, UINT n, EXCEPINFO *e, UINT *err)
+{
     DISPID put = DISPID_PROPERTYPUT;
     DISPPARAMS p = {args, &put, n, 1};
     return IDispatch_Invoke(d, id, &IID_NULL, 0, DISPATCH_PROPERTYPUT, &p, NULL, e, err);
 }
-static HRESULT get(DISPID id, VARIANT *args, UINT n, VARIANT *out) {
+
+static HRESULT get(DISPID id, VARIANT *args, UINT n, VARIANT *out)
+{
     DISPPARAMS p = {args, NULL, n, 0};
     VariantInit(out);
     return IDispatch_Invoke(d, id, &IID_NULL, 0, DISPATCH_PROPERTYGET, &p, out, NULL, NULL);
 }
-static void there_and_back(const char *what, VARIANT *v) {
+
+static void there_and_back(const char *what, VARIANT *v)
+{
     VARIANT got;
     HRESULT a = put(7, v, 1, NULL, NULL), b = get(7, NULL, 0, &got);
     char text[200];
     int same = 0;
     if (a == S_OK && b == S_OK && V_VT(&got) == V_VT(v)) {
         if (V_VT(v) == VT_BSTR)
-            same = SysStringByteLen(V_BSTR(v)) == SysStringByteLen(V_BSTR(&got)) && !V_BSTR(v) == !V_BSTR(&got) &&
+            same = SysStringByteLen(V_BSTR(v)) == SysStringByteLen(V_BSTR(&got)) &&
+                   !V_BSTR(v) == !V_BSTR(&got) &&
                    (!V_BSTR(v) || !memcmp(V_BSTR(v), V_BSTR(&got), SysStringByteLen(V_BSTR(v))));
         else if (V_VT(v) & VT_ARRAY) {
             SAFEARRAY *x = V_ARRAY(v), *y = V_ARRAY(&got);
             ULONG i, n = 1;
-            same = x->cDims == y->cDims && x->cbElements == y->cbElements && !memcmp(x->rgsabound, y->rgsabound, x->cDims * sizeof *x->rgsabound);
-            for (i = 0; i < x->cDims; i++) n *= x->rgsabound[i].cElements;
+            same = x->cDims == y->cDims && x->cbElements == y->cbElements &&
+                   !memcmp(x->rgsabound, y->rgsabound, x->cDims * sizeof *x->rgsabound);
+            for (i = 0; i < x->cDims; i++)
+                n *= x->rgsabound[i].cElements;
             for (i = 0; same && i < n; i++) {
                 if (V_VT(v) == (VT_ARRAY | VT_BSTR)) {
                     BSTR p = ((BSTR *)x->pvData)[i], q = ((BSTR *)y->pvData)[i];
-                    same = SysStringByteLen(p) == SysStringByteLen(q) && !memcmp(p ? p : L"", q ? q : L"", SysStringByteLen(p));
+                    same = SysStringByteLen(p) == SysStringByteLen(q) &&
+                           !memcmp(p ? p : L"", q ? q : L"", SysStringByteLen(p));
                 } else if (V_VT(v) == (VT_ARRAY | VT_VARIANT)) {
                     VARIANT *p = (VARIANT *)x->pvData + i, *q = (VARIANT *)y->pvData + i;
-                    same = V_VT(p) == V_VT(q) && (V_VT(p) == VT_BSTR ? !lstrcmpW(V_BSTR(p), V_BSTR(q)) : V_VT(p) == VT_I4 ? V_I4(p) == V_I4(q) : 1);
-                } else same = !memcmp((char *)x->pvData + i * x->cbElements, (char *)y->pvData + i * x->cbElements, x->cbElements);
+                    same = V_VT(p) == V_VT(q) &&
+                           (V_VT(p) == VT_BSTR ? !lstrcmpW(V_BSTR(p), V_BSTR(q))
+                            : V_VT(p) == VT_I4 ? V_I4(p) == V_I4(q)
+                                               : 1);
+                } else
+                    same = !memcmp((char *)x->pvData + i * x->cbElements,
+                                   (char *)y->pvData + i * x->cbElements, x->cbElements);
             }
-        } else if (V_VT(v) == VT_DECIMAL) same = !memcmp((char *)v + 2, (char *)&got + 2, 14);
+        } else if (V_VT(v) == VT_DECIMAL)
+            same = !memcmp((char *)v + 2, (char *)&got + 2, 14);
         else {
             LONGLONG m = V_VT(v) == VT_EMPTY || V_VT(v) == VT_NULL ? 0 : -1;
             int w = V_VT(v) == VT_I1 || V_VT(v) == VT_UI1                         ? 1
@@ -137,8 +180,10 @@ static void there_and_back(const char *what, VARIANT *v) {
     ok(text, same);
     VariantClear(&got);
 }
+
 /* a proxy of an interface, by which the calls that follow go to an IPID */
-static void *proxy(const IID *iid, const char *ipid) {
+static void *proxy(const IID *iid, const char *ipid)
+{
     IPSFactoryBuffer *ps;
     IRpcProxyBuffer *pb;
     CLSID cl;
@@ -146,14 +191,21 @@ static void *proxy(const IID *iid, const char *ipid) {
     void *made = NULL;
     UuidFromStringA((unsigned char *)ipid, &object);
     RpcBindingSetObject(binding, &object);
-    if (CoGetPSClsid(iid, &cl) || CoGetClassObject(&cl, CLSCTX_INPROC_SERVER, NULL, &IID_IPSFactoryBuffer, (void **)&ps)) return NULL;
-    if (IPSFactoryBuffer_CreateProxy(ps, NULL, iid, &pb, &made)) return NULL;
+    if (CoGetPSClsid(iid, &cl) ||
+        CoGetClassObject(&cl, CLSCTX_INPROC_SERVER, NULL, &IID_IPSFactoryBuffer, (void **)&ps))
+        return NULL;
+    if (IPSFactoryBuffer_CreateProxy(ps, NULL, iid, &pb, &made))
+        return NULL;
     IRpcProxyBuffer_Connect(pb, &channel.face);
     return made;
 }
-/* Left out are Wine's own forms: what returns texts, which Wine aligns to 8 bytes, and FUNCDESCs and VARDESCs, since Wine's IDL has no switch_type
-   for the union of a TYPEDESC, so that its tag has 32 bits, and MS-OAUT's has 16. And Wine does not take references to objects of another machine. */
-static void types(const char *type, const char *library, const char *comp) {
+
+/* Left out are Wine's own forms: what returns texts, which Wine aligns to 8 bytes, and FUNCDESCs
+   and VARDESCs, since Wine's IDL has no switch_type for the union of a TYPEDESC, so that its tag
+   has 32 bits, and MS-OAUT's has 16. And Wine does not take references to objects of another
+   machine. */
+static void types(const char *type, const char *library, const char *comp)
+{
     ITypeInfo *info = proxy(&IID_ITypeInfo, type), *of = NULL;
     ITypeLib *lib;
     ITypeComp *names;
@@ -167,7 +219,8 @@ static void types(const char *type, const char *library, const char *comp) {
     HREFTYPE href = 0;
     INT flags = 9;
     HRESULT hr = ITypeInfo_GetTypeAttr(info, &attributes);
-    ok("GetTypeAttr", hr == S_OK && attributes && attributes->cFuncs == 3 && attributes->cVars == 8 && attributes->typekind == TKIND_DISPATCH);
+    ok("GetTypeAttr", hr == S_OK && attributes && attributes->cFuncs == 3 &&
+                          attributes->cVars == 8 && attributes->typekind == TKIND_DISPATCH);
     hr = ITypeInfo_GetFuncDesc(info, 99, &function);
     ok("GetFuncDesc past the end", hr == TYPE_E_ELEMENTNOTFOUND);
     hr = ITypeInfo_GetVarDesc(info, 99, &variable);
@@ -183,20 +236,24 @@ static void types(const char *type, const char *library, const char *comp) {
     hr = ITypeLib_GetTypeInfoType(lib, 2, &kind);
     ok("ITypeLib::GetTypeInfoType past the end", hr == TYPE_E_ELEMENTNOTFOUND);
     hr = ITypeLib_GetLibAttr(lib, &about);
-    ok("ITypeLib::GetLibAttr",
-       hr == S_OK && about && about->guid.Data1 == (0x11223344 ^ 0x6F617574) && about->syskind == SYS_WIN32 && !about->wMajorVerNum);
+    ok("ITypeLib::GetLibAttr", hr == S_OK && about &&
+                                   about->guid.Data1 == (0x11223344 ^ 0x6F617574) &&
+                                   about->syskind == SYS_WIN32 && !about->wMajorVerNum);
     names = proxy(&IID_ITypeComp, comp);
     hr = ITypeComp_Bind(names, L"Nothing", 0, 0, &of, &desc, &bound);
     ok("ITypeComp::Bind of none", hr == S_OK && desc == DESCKIND_NONE && !of);
     hr = ITypeComp_Bind(names, L"Clear", 0, INVOKE_PROPERTYPUT, &of, &desc, &bound);
     ok("ITypeComp::Bind in another way", hr == TYPE_E_TYPEMISMATCH);
 }
-int main(int argc, char **argv) {
+
+int main(int argc, char **argv)
+{
     RPC_WSTR s;
     WCHAR host[64], port[16];
     RPC_STATUS st;
     HRESULT hr;
-    SEC_WINNT_AUTH_IDENTITY_W id = {L"joe", 3, L"OAUT", 4, L"Secret-1", 8, SEC_WINNT_AUTH_IDENTITY_UNICODE};
+    SEC_WINNT_AUTH_IDENTITY_W id = {
+        L"joe", 3, L"OAUT", 4, L"Secret-1", 8, SEC_WINNT_AUTH_IDENTITY_UNICODE};
     VARIANT v, got, args[3];
     LPOLESTR names[2] = {L"Cell", L"kEY"};
     DISPID ids[2];
@@ -208,7 +265,10 @@ int main(int argc, char **argv) {
     MultiByteToWideChar(CP_ACP, 0, argv[2], -1, port, 16);
     st = RpcStringBindingComposeW(NULL, L"ncacn_ip_tcp", host, port, NULL, &s);
     st = RpcBindingFromStringBindingW(s, &binding);
-    if (level > 1) { st = RpcBindingSetAuthInfoW(binding, (RPC_WSTR)L"host/OAUT", level, atoi(argv[3]), &id, RPC_C_AUTHZ_NONE); }
+    if (level > 1) {
+        st = RpcBindingSetAuthInfoW(binding, (RPC_WSTR)L"host/OAUT", level, atoi(argv[3]), &id,
+                                    RPC_C_AUTHZ_NONE);
+    }
     d = proxy(&IID_IDispatch, argv[5]);
     hr = IDispatch_GetIDsOfNames(d, &IID_NULL, names, 2, 0, ids);
     ok("GetIDsOfNames", hr == S_OK && ids[0] == 9 && ids[1] == 1);
@@ -272,7 +332,8 @@ int main(int argc, char **argv) {
         int i;
         SAFEARRAY *a = SafeArrayCreate(VT_I2, 2, b);
         SafeArrayAccessData(a, (void **)&p);
-        for (i = 0; i < 6; i++) p[i] = i + 1;
+        for (i = 0; i < 6; i++)
+            p[i] = i + 1;
         SafeArrayUnaccessData(a);
         V_VT(&v) = VT_ARRAY | VT_I2;
         V_ARRAY(&v) = a;
@@ -321,15 +382,18 @@ int main(int argc, char **argv) {
         V_VT(&ref[1]) = VT_BYREF | VT_I4;
         V_I4REF(&ref[1]) = &row;
         hr = get(9, ref, 2, &got);
-        ok("get Cell by references", hr == S_OK && V_VT(&got) == VT_BSTR && !lstrcmpW(V_BSTR(&got), L"tea") && row == 5 && V_VT(&key) == VT_BSTR &&
-                                         !lstrcmpW(V_BSTR(&key), L"k"));
+        ok("get Cell by references", hr == S_OK && V_VT(&got) == VT_BSTR &&
+                                         !lstrcmpW(V_BSTR(&got), L"tea") && row == 5 &&
+                                         V_VT(&key) == VT_BSTR && !lstrcmpW(V_BSTR(&key), L"k"));
     }
     V_VT(&v) = VT_BSTR;
     V_BSTR(&v) = SysAllocString(L"x");
     memset(&e, 0, sizeof e);
     hr = put(1, &v, 1, &e, &err);
     ok("a put that is refused", hr == DISP_E_TYPEMISMATCH && err == 0);
-    ok("its description", e.bstrDescription && wcsstr(e.bstrDescription, L"the new value is declared long and given as BSTR"));
+    ok("its description",
+       e.bstrDescription &&
+           wcsstr(e.bstrDescription, L"the new value is declared long and given as BSTR"));
     V_VT(&v) = VT_R8;
     V_R8(&v) = 1.5;
     hr = put(1, &v, 1, NULL, &err);

@@ -125,7 +125,7 @@ class Docs(Cases):
 
     @unittest.skipUnless(shutil.which("clang-format-14"), "clang-format-14 is not there")
     def test_how_c_is_laid_out(self):
-        """As Debian's clang-format has it, by the .clang-format of each file's folder or of one above it."""
+        """As Debian's clang-format has it, by the .clang-format of the repository."""
         files = sorted(it for of in ("bench", "clients", "tests") for it in glob.glob(f"{ROOT}/{of}/**/*.[ch]", recursive=True))
         done = subprocess.run(["clang-format-14", "--dry-run", "-Werror", *files], capture_output=True, text=True)
         self.tell("clang-format has nothing to change", len(files) > 30 and done.returncode == 0, (len(files), done.stderr[:500]))

@@ -1,10 +1,12 @@
-/* A COM client in C, for what scripts cannot say: each type of value by value and by reference, bit by bit, arrays, named
-   arguments, argErr, the moniker, type information. The classes are those of tests/demo.idl, registered with Script = 0.
+/* A COM client in C, for what scripts cannot say: each type of value by value and by reference, bit
+   by bit, arrays, named arguments, argErr, the moniker, type information. The classes are those of
+   tests/demo.idl, registered with Script = 0.
 
-       client                  the cases: a line "ok   NAME" or "BAD  NAME: CODE" each, and the last one "end"
-       client script           those of a class with Script = 1
-       client spoiled SECONDS  values there and back over a server whose replies are spoiled, so long: nothing may break
-       client starts FILE      puts a number, starts a process that goes on until there is such a file, and ends before it */
+       client                  the cases: a line "ok   NAME" or "BAD  NAME: CODE" each, and the last
+   one "end" client script           those of a class with Script = 1 client spoiled SECONDS  values
+   there and back over a server whose replies are spoiled, so long: nothing may break client starts
+   FILE      puts a number, starts a process that goes on until there is such a file, and ends
+   before it */
 #define COBJMACROS
 #include "../wire.h"
 
@@ -65,7 +67,8 @@ static BOOL same_text(BSTR one, BSTR other)
 {
     UINT count = SysStringByteLen(one);
 
-    return !one == !other && count == SysStringByteLen(other) && (!count || !memcmp(one, other, count));
+    return !one == !other && count == SysStringByteLen(other) &&
+           (!count || !memcmp(one, other, count));
 }
 
 static BOOL same_scalar(const VARIANT *one, const VARIANT *other)
@@ -77,7 +80,8 @@ static BOOL same_scalar(const VARIANT *one, const VARIANT *other)
     if (V_VT(one) == VT_BSTR)
         return same_text(V_BSTR(one), V_BSTR(other));
     if (V_VT(one) == VT_DECIMAL)
-        return a->scale == b->scale && a->sign == b->sign && a->Hi32 == b->Hi32 && a->Lo64 == b->Lo64;
+        return a->scale == b->scale && a->sign == b->sign && a->Hi32 == b->Hi32 &&
+               a->Lo64 == b->Lo64;
     return !memcmp(&V_UI8(one), &V_UI8(other), width_of(V_VT(one)));
 }
 
@@ -91,10 +95,11 @@ static BOOL same_array(const SAFEARRAY *one, const SAFEARRAY *other, VARTYPE typ
     for (i = 0; i < one->cDims; i++)
         count *= one->rgsabound[i].cElements;
     for (i = 0; i < count; i++) {
-        if (type == VT_BSTR      ? !same_text(((BSTR *)one->pvData)[i], ((BSTR *)other->pvData)[i])
-            : type == VT_VARIANT ? !same_scalar((VARIANT *)one->pvData + i, (VARIANT *)other->pvData + i)
-                                 : memcmp((BYTE *)one->pvData + i * one->cbElements,
-                                          (BYTE *)other->pvData + i * one->cbElements, one->cbElements) != 0)
+        if (type == VT_BSTR ? !same_text(((BSTR *)one->pvData)[i], ((BSTR *)other->pvData)[i])
+            : type == VT_VARIANT
+                ? !same_scalar((VARIANT *)one->pvData + i, (VARIANT *)other->pvData + i)
+                : memcmp((BYTE *)one->pvData + i * one->cbElements,
+                         (BYTE *)other->pvData + i * one->cbElements, one->cbElements) != 0)
             return FALSE;
     }
     return TRUE;
@@ -104,10 +109,12 @@ static BOOL same_value(const VARIANT *one, const VARIANT *other)
 {
     if (!(V_VT(one) & VT_ARRAY))
         return same_scalar(one, other);
-    return V_VT(one) == V_VT(other) && same_array(V_ARRAY(one), V_ARRAY(other), V_VT(one) & (VARTYPE)~VT_ARRAY);
+    return V_VT(one) == V_VT(other) &&
+           same_array(V_ARRAY(one), V_ARRAY(other), V_VT(one) & (VARTYPE)~VT_ARRAY);
 }
 
-/* Puts a value by value, by reference, and by a reference to a VARIANT, and gets it back each time. */
+/* Puts a value by value, by reference, and by a reference to a VARIANT, and gets it back each
+ * time. */
 static void there_and_back(const char *name, VARIANT *value)
 {
     static const char *const ways[] = {"by value", "by reference", "by a reference to a VARIANT"};
@@ -121,7 +128,8 @@ static void there_and_back(const char *name, VARIANT *value)
         if (way == 1 && V_VT(value) <= VT_NULL)
             continue;
         if (way == 1) {
-            V_BYREF(&given) = V_VT(value) == VT_DECIMAL ? (void *)&V_DECIMAL(value) : (void *)&V_UI8(value);
+            V_BYREF(&given) = V_VT(value) == VT_DECIMAL ? (void *)&V_DECIMAL(value)
+                                                        : (void *)&V_UI8(value);
             V_VT(&given) = V_VT(value) | VT_BYREF;
         } else if (way == 2) {
             V_VARIANTREF(&given) = value;
@@ -132,7 +140,8 @@ static void there_and_back(const char *name, VARIANT *value)
         there = put(ANY, &given, 1);
         back = get(ANY, NULL, 0, &seen);
         sprintf(line, "%s, %s", name, ways[way]);
-        tell(there == S_OK && back == S_OK && same_value(value, &seen), line, there == S_OK ? back : there);
+        tell(there == S_OK && back == S_OK && same_value(value, &seen), line,
+             there == S_OK ? back : there);
         VariantClear(&seen);
     }
 }
@@ -282,7 +291,8 @@ static void elements(void)
     arguments[1] = number_of(0);
     if (code == S_OK)
         code = get(8, arguments, 2, &seen);
-    tell(code == S_OK && V_VT(&seen) == VT_I2 && V_I2(&seen) == 41, "an element is that of SafeArrayGetElement", code);
+    tell(code == S_OK && V_VT(&seen) == VT_I2 && V_I2(&seen) == 41,
+         "an element is that of SafeArrayGetElement", code);
     arguments[2] = arguments[1];
     arguments[1] = arguments[0];
     arguments[0] = number_of(42);
@@ -291,7 +301,8 @@ static void elements(void)
         code = get(8, NULL, 0, &seen);
     if (code == S_OK)
         SafeArrayGetElement(V_ARRAY(&seen), indices, &cell);
-    tell(code == S_OK && cell == 42, "an element that was put is that of SafeArrayGetElement", code);
+    tell(code == S_OK && cell == 42, "an element that was put is that of SafeArrayGetElement",
+         code);
     VariantClear(&seen);
     arguments[0] = value; /* Row(5) = array, then its element */
     arguments[1] = number_of(5);
@@ -301,10 +312,12 @@ static void elements(void)
     arguments[2] = number_of(5);
     if (code == S_OK)
         code = get(11, arguments, 3, &seen);
-    tell(code == S_OK && V_VT(&seen) == VT_I2 && V_I2(&seen) == 41, "an element of a property with a parameter", code);
+    tell(code == S_OK && V_VT(&seen) == VT_I2 && V_I2(&seen) == 41,
+         "an element of a property with a parameter", code);
     arguments[2] = text_of(L"no number");
     code = get(11, arguments, 3, &seen);
-    tell(code == DISP_E_TYPEMISMATCH && at_fault == 2, "a wrong parameter of an element, argument 2", code);
+    tell(code == DISP_E_TYPEMISMATCH && at_fault == 2,
+         "a wrong parameter of an element, argument 2", code);
     VariantClear(&arguments[2]);
     arguments[2] = number_of(5);
     arguments[1] = number_of(9);
@@ -350,7 +363,8 @@ static void refusals(void)
     V_VT(&value) = VT_R8;
     V_R8(&value) = 7;
     code = put(1, &value, 1);
-    tell(code == DISP_E_BADVARTYPE && at_fault == 0, "the double 7.0 into a long, argument 0", code);
+    tell(code == DISP_E_BADVARTYPE && at_fault == 0, "the double 7.0 into a long, argument 0",
+         code);
     V_VT(&value) = VT_R4;
     code = put(ANY, &value, 1);
     tell(code == DISP_E_BADVARTYPE && at_fault == 0, "a float", code);
@@ -366,11 +380,14 @@ static void refusals(void)
     code = put_array(8, VT_I4, VT_I4);
     tell(code == DISP_E_TYPEMISMATCH && at_fault == 0, "an array of I4 into one of I2", code);
     code = put_array(8, VT_VARIANT, VT_VARIANT);
-    tell(code == DISP_E_TYPEMISMATCH && at_fault == 0, "an array of VARIANT into one of I2, without Script", code);
+    tell(code == DISP_E_TYPEMISMATCH && at_fault == 0,
+         "an array of VARIANT into one of I2, without Script", code);
     code = put_array(ANY, VT_I2, VT_I8);
-    tell(code == E_INVALIDARG && at_fault == 0, "an array of I2 that its VARIANT calls one of I8", code);
+    tell(code == E_INVALIDARG && at_fault == 0, "an array of I2 that its VARIANT calls one of I8",
+         code);
     code = put_array(ANY, VT_I8, VT_BSTR);
-    tell(code == E_INVALIDARG && at_fault == 0, "an array of I8 that its VARIANT calls one of texts", code);
+    tell(code == E_INVALIDARG && at_fault == 0,
+         "an array of I8 that its VARIANT calls one of texts", code);
     VariantInit(&value);
     V_VT(&value) = VT_I4 | VT_BYREF;
     V_BYREF(&value) = NULL;
@@ -413,7 +430,8 @@ static void script_arrays(void)
     code = put(11, arguments, 2);
     if (code == S_OK)
         code = get(11, arguments + 1, 1, &seen);
-    tell(code == S_OK && V_VT(&seen) == (VT_ARRAY | VT_VARIANT) && V_I2((VARIANT *)V_ARRAY(&seen)->pvData) == 7,
+    tell(code == S_OK && V_VT(&seen) == (VT_ARRAY | VT_VARIANT) &&
+             V_I2((VARIANT *)V_ARRAY(&seen)->pvData) == 7,
          "an array of VARIANT there and back", code);
     VariantClear(&seen);
     cells[1] = number_of(70000);
@@ -421,7 +439,8 @@ static void script_arrays(void)
     tell(code == DISP_E_OVERFLOW && at_fault == 0, "a cell that is too large, argument 0", code);
     arguments[1] = text_of(L"no number");
     code = put(11, arguments, 2);
-    tell(code == DISP_E_TYPEMISMATCH && at_fault == 1, "a wrong parameter beside such a cell, argument 1", code);
+    tell(code == DISP_E_TYPEMISMATCH && at_fault == 1,
+         "a wrong parameter beside such a cell, argument 1", code);
     VariantClear(&arguments[0]);
     VariantClear(&arguments[1]);
 }
@@ -449,8 +468,8 @@ static void named_arguments(void)
     tell(code == S_OK, "a put by names", code);
     VariantInit(&seen);
     code = call(9, DISPATCH_PROPERTYGET, &by_place, &seen);
-    tell(code == S_OK && V_VT(&seen) == VT_BSTR && same_text(V_BSTR(&seen), V_BSTR(&arguments[0])), "a get by place",
-         code);
+    tell(code == S_OK && V_VT(&seen) == VT_BSTR && same_text(V_BSTR(&seen), V_BSTR(&arguments[0])),
+         "a get by place", code);
     VariantClear(&seen);
     code = call(9, DISPATCH_PROPERTYGET, &by_place, NULL);
     tell(code == S_OK, "a get without a place for the result", code);
@@ -458,7 +477,8 @@ static void named_arguments(void)
     V_I8(&arguments[2]) = (LONGLONG)1 << 40;
     code = call(9, DISPATCH_PROPERTYGET, &by_place, &seen);
     tell(code == DISP_E_OVERFLOW && at_fault == 1, "a Row that is too large, argument 1", code);
-    code = IDispatch_Invoke(item, 9, &IID_IUnknown, 0, DISPATCH_PROPERTYGET, &by_place, &seen, NULL, NULL);
+    code = IDispatch_Invoke(item, 9, &IID_IUnknown, 0, DISPATCH_PROPERTYGET, &by_place, &seen, NULL,
+                            NULL);
     tell(code == DISP_E_UNKNOWNINTERFACE, "a get with another riid", code);
     put_ids[1] = put_ids[2] = 5;
     arguments[2] = number_of(5);
@@ -492,7 +512,9 @@ static void forms_of_calls(void)
     static const WORD gets[] = {DISPATCH_PROPERTYGET, DISPATCH_PROPERTYGET | DISPATCH_METHOD};
     static const WORD puts_[] = {DISPATCH_PROPERTYPUT, DISPATCH_PROPERTYPUTREF,
                                  DISPATCH_PROPERTYPUT | DISPATCH_PROPERTYPUTREF};
-    /* Cell("x"; Row 5, Key "k", Page 2), each argument by place or by name; the new value's name stands anywhere */
+
+    /* Cell("x"; Row 5, Key "k", Page 2), each argument by place or by name; the new value's name
+     * stands anywhere */
     static const struct {
         const char *name;
         UINT named;
@@ -505,6 +527,7 @@ static void forms_of_calls(void)
         {"all by name, backwards", 4, {0, 1, 2, 3}, {0, 1, 2, DISPID_PROPERTYPUT}},
         {"the new value between", 3, {2, 3, 1, 0}, {2, DISPID_PROPERTYPUT, 1}},
     };
+
     DISPID new_value = DISPID_PROPERTYPUT;
     VARIANT number, seen, values[4], given[4];
     DISPPARAMS one = {&number, &new_value, 1, 1}, none = {NULL, NULL, 0, 0};
@@ -527,7 +550,8 @@ static void forms_of_calls(void)
     values[1] = text_of(L"k");
     values[2] = number_of(2);
     for (i = 0; i < ARRAYSIZE(mixes); i++) {
-        DISPPARAMS mixed = {given, (DISPID *)mixes[i].ids, 4, mixes[i].named}, by_place = {given, NULL, 3, 0};
+        DISPPARAMS mixed = {given, (DISPID *)mixes[i].ids, 4, mixes[i].named},
+                   by_place = {given, NULL, 3, 0};
         WCHAR text[2] = {(WCHAR)(L'a' + i), 0};
 
         values[3] = text_of(text);
@@ -545,7 +569,8 @@ static void forms_of_calls(void)
             VariantClear(&seen);
         VariantClear(&values[3]);
     }
-    /* Page is left out by what VBA gives for it: the default's cell is the one that named_arguments has put */
+    /* Page is left out by what VBA gives for it: the default's cell is the one that named_arguments
+     * has put */
     given[0] = number_of(0);
     V_VT(&given[0]) = VT_ERROR;
     V_ERROR(&given[0]) = DISP_E_PARAMNOTFOUND;
@@ -592,7 +617,8 @@ static void odd_arrays(void)
     code = put(8, &value, 1);
     if (code == S_OK)
         code = get(8, NULL, 0, &seen);
-    tell(code == S_OK && V_VT(&seen) == (VT_ARRAY | VT_I2) && !V_ARRAY(&seen)->rgsabound[0].cElements,
+    tell(code == S_OK && V_VT(&seen) == (VT_ARRAY | VT_I2) &&
+             !V_ARRAY(&seen)->rgsabound[0].cElements,
          "an array that was never dimensioned", code);
     if (code == S_OK)
         VariantClear(&seen);
@@ -613,8 +639,8 @@ static void odd_arrays(void)
     if (code == S_OK)
         code = get(16, NULL, 0, &seen);
     cells = code == S_OK ? V_ARRAY(&seen)->pvData : NULL;
-    tell(code == S_OK && V_I4(&cells[0]) == 5 && V_VT(&cells[1]) == VT_I4 && V_I4(&cells[1]) == 5, "cells by reference",
-         code);
+    tell(code == S_OK && V_I4(&cells[0]) == 5 && V_VT(&cells[1]) == VT_I4 && V_I4(&cells[1]) == 5,
+         "cells by reference", code);
     if (code == S_OK)
         VariantClear(&seen);
     SafeArrayDestroy(V_ARRAY(&value));
@@ -631,16 +657,19 @@ static void words_of_refusals(void)
 
     memset(&told, 0x55, sizeof told);
     code = IDispatch_Invoke(item, 1, &IID_NULL, 0, DISPATCH_PROPERTYPUT, &given, NULL, &told, NULL);
-    tell(code == DISP_E_EXCEPTION && told.scode == DISP_E_TYPEMISMATCH && !told.wCode && !told.bstrHelpFile &&
-             !lstrcmpW(told.bstrSource, L"Demo.Item") && wcsstr(told.bstrDescription, L", Count: the value is of"),
+    tell(code == DISP_E_EXCEPTION && told.scode == DISP_E_TYPEMISMATCH && !told.wCode &&
+             !told.bstrHelpFile && !lstrcmpW(told.bstrSource, L"Demo.Item") &&
+             wcsstr(told.bstrDescription, L", Count: the value is of"),
          "words beside the code", code);
     SysFreeString(told.bstrSource);
     SysFreeString(told.bstrDescription);
     code = IDispatch_Invoke(item, 9, &IID_NULL, 0, DISPATCH_PROPERTYGET, &none, NULL, &told, NULL);
-    tell(code == DISP_E_PARAMNOTOPTIONAL, "a host that asks whether a member wants arguments has the code itself",
-         code);
-    code = IDispatch_Invoke(item, 9, &IID_NULL, 0, DISPATCH_PROPERTYGET | DISPATCH_METHOD, &none, NULL, &told, NULL);
-    tell(code == DISP_E_EXCEPTION && told.scode == DISP_E_PARAMNOTOPTIONAL, "one that calls it has words", code);
+    tell(code == DISP_E_PARAMNOTOPTIONAL,
+         "a host that asks whether a member wants arguments has the code itself", code);
+    code = IDispatch_Invoke(item, 9, &IID_NULL, 0, DISPATCH_PROPERTYGET | DISPATCH_METHOD, &none,
+                            NULL, &told, NULL);
+    tell(code == DISP_E_EXCEPTION && told.scode == DISP_E_PARAMNOTOPTIONAL,
+         "one that calls it has words", code);
     SysFreeString(told.bstrSource);
     SysFreeString(told.bstrDescription);
     VariantClear(&text);
@@ -664,9 +693,10 @@ static void objects_by_reference(void)
     V_DISPATCHREF(&object) = &item;
     given.rgvarg = &object;
     if (SUCCEEDED(code))
-        code = IDispatch_Invoke(hub, id_of(hub, L"NumberOf"), &IID_NULL, 0, DISPATCH_METHOD, &given, &number, NULL,
-                                NULL);
-    tell(code == S_OK && V_VT(&number) == VT_I4 && V_I4(&number) > 0, "an object by reference", code);
+        code = IDispatch_Invoke(hub, id_of(hub, L"NumberOf"), &IID_NULL, 0, DISPATCH_METHOD, &given,
+                                &number, NULL, NULL);
+    tell(code == S_OK && V_VT(&number) == VT_I4 && V_I4(&number) > 0, "an object by reference",
+         code);
     if (hub)
         IDispatch_Release(hub);
 }
@@ -714,7 +744,8 @@ static void type_information(void)
         code = ITypeInfo_GetTypeAttr(type, &attributes);
     if (code == S_OK)
         code = ITypeInfo_GetDocumentation(type, MEMBERID_NIL, &name, NULL, NULL, NULL);
-    tell(code == S_OK && attributes->typekind == TKIND_DISPATCH && attributes->cVars == 8 && !lstrcmpW(name, L"DItem"),
+    tell(code == S_OK && attributes->typekind == TKIND_DISPATCH && attributes->cVars == 8 &&
+             !lstrcmpW(name, L"DItem"),
          "type information", code);
     SysFreeString(name);
     code = IDispatch_GetTypeInfo(item, 1, 0, &type);
@@ -731,8 +762,10 @@ static VARIANT some_value(unsigned kind, unsigned number)
 
     memset(&made, 0, sizeof made);
     switch (kind) {
-    case 0: return number_of((LONG)number);
-    case 1: return text_of(L"some text");
+    case 0:
+        return number_of((LONG)number);
+    case 1:
+        return text_of(L"some text");
     case 2:
         V_DECIMAL(&made).Lo64 = number;
         V_VT(&made) = VT_DECIMAL;
@@ -758,7 +791,8 @@ static int spoiled(REFCLSID class, int seconds)
         DISPID ids[3];
         HRESULT code;
 
-        if (!item && FAILED(CoCreateInstance(class, NULL, CLSCTX_INPROC_SERVER, &IID_IDispatch, (void **)&item))) {
+        if (!item && FAILED(CoCreateInstance(class, NULL, CLSCTX_INPROC_SERVER, &IID_IDispatch,
+                                             (void **)&item))) {
             refused++;
             continue;
         }
@@ -793,7 +827,8 @@ static int starts(const char *file)
     GetModuleFileNameA(NULL, self, MAX_PATH);
     sprintf(line, "\"%s\" waits \"%.250s\"", self, file);
     tell(put(1, &value, 1) == S_OK, "a put", S_OK);
-    tell(CreateProcessA(NULL, line, NULL, NULL, TRUE, 0, NULL, NULL, &how, &made), "a process is started", S_OK);
+    tell(CreateProcessA(NULL, line, NULL, NULL, TRUE, 0, NULL, NULL, &how, &made),
+         "a process is started", S_OK);
     puts("end");
     fflush(stdout);
     TerminateProcess(GetCurrentProcess(), 0); /* it hangs up by its end alone */
@@ -828,8 +863,8 @@ int main(int count, char **words)
         puts("end");
         return 0;
     }
-    tell(id_of(item, L"any") == 7 && id_of(item, L"COUNT") == 1 && id_of(item, L"Count") == 1, "DISPIDs of names",
-         S_OK);
+    tell(id_of(item, L"any") == 7 && id_of(item, L"COUNT") == 1 && id_of(item, L"Count") == 1,
+         "DISPIDs of names", S_OK);
     scalars();
     arrays();
     elements();

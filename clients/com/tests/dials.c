@@ -1,6 +1,7 @@
-/* Which of a host's addresses connection.c dials, under Linux with sanitizers. The host is 127.0.0.2 and 127.0.0.1, in this
-   order. A line for each turn: which of them were reached, by the last byte of their addresses, where only the second one
-   listens, both, only the first one, and both again. */
+/* Which of a host's addresses connection.c dials, under Linux with sanitizers. The host is
+   127.0.0.2 and 127.0.0.1, in this order. A line for each turn: which of them were reached, by the
+   last byte of their addresses, where only the second one listens, both, only the first one, and
+   both again. */
 #define OWN_SOCKETS
 #include "../library.h"
 

@@ -1,5 +1,6 @@
-/* Reads fields from standard input, one a line in hexadecimal digits, and prints what the bridge writes for the value
-   that each spells, or `-` where it spells none. Built for Windows and for Linux. */
+/* Reads fields from standard input, one a line in hexadecimal digits, and prints what the bridge
+   writes for the value that each spells, or `-` where it spells none. Built for Windows and for
+   Linux. */
 #include "../wire.h"
 
 #include <stdio.h>

@@ -2,8 +2,9 @@
 
        fuzz SECONDS SEED < CORPUS
 
-   CORPUS has a line in hexadecimal digits for each field, and `type DIGITS` for each reply to TYPEINFO, by their index.
-   Half of the time goes to fields, half to a server that spoils its replies; memory is refused now and then in both. */
+   CORPUS has a line in hexadecimal digits for each field, and `type DIGITS` for each reply to
+   TYPEINFO, by their index. Half of the time goes to fields, half to a server that spoils its
+   replies; memory is refused now and then in both. */
 #define OWN_SOCKETS
 #include "../calls.h"
 
@@ -73,7 +74,8 @@ static void read_corpus(void)
         exit(2);
 }
 
-/* The bytes with some changed, or cut, or with some behind; in a block exactly as long as they are. */
+/* The bytes with some changed, or cut, or with some behind; in a block exactly as long as they
+ * are. */
 static Bytes spoiled(const BYTE *bytes, size_t length)
 {
     static const BYTE odd[] = {0, 1, 2, 3, 8, 0x0C, 0x10, 0x20, 0x40, 0x7F, 0x80, 0xFF};
@@ -158,7 +160,8 @@ static void use_value(VARIANT *value, int how)
         from = reader_of(one.bytes + 4, one.length - 4);
         if (read_variant(&from, FALSE, &again) == S_OK) {
             if (write_variant(&other, &again) == S_OK &&
-                (other.length != one.length - 4 || memcmp(other.bytes, one.bytes + 4, other.length)))
+                (other.length != one.length - 4 ||
+                 memcmp(other.bytes, one.bytes + 4, other.length)))
                 fail("a value that is read again is another one");
             VariantClear(&again);
         } else if (has_memory) {
@@ -168,8 +171,8 @@ static void use_value(VARIANT *value, int how)
         fail("a value that was read is not written");
     }
     writer_begin(&one, 0);
-    if (write_variant_as(&one, value, types_of[any(sizeof types_of / sizeof *types_of)], FOR_SCRIPTS | (int)any(8)) !=
-            S_OK &&
+    if (write_variant_as(&one, value, types_of[any(sizeof types_of / sizeof *types_of)],
+                         FOR_SCRIPTS | (int)any(8)) != S_OK &&
         has_memory && one.length)
         fail("a value that is not written has left something");
     writer_free(&one);
@@ -180,7 +183,8 @@ static void fuzz_field(void)
 {
     Bytes field = fields[any((uint32_t)field_count)];
     Bytes changed = any(8) ? spoiled(field.bytes, field.length) : spoiled(field.bytes, 0);
-    Bytes whole = framed(changed), body = any(4) ? framed(changed) : spoiled(whole.bytes, whole.length);
+    Bytes whole = framed(changed),
+          body = any(4) ? framed(changed) : spoiled(whole.bytes, whole.length);
     Reader from = reader_of(body.bytes, body.length);
     int how = (int)any(8);
     VARIANT value;
@@ -276,14 +280,15 @@ static void serve(int listening)
         int client = accept(listening, NULL, NULL), one = 1;
 
         set_socket_option(client, IPPROTO_TCP, TCP_NODELAY, (const char *)&one, sizeof one);
-        while (client >= 0 && all_of(client, &length, 4, 0) && length >= 8 && length <= sizeof body &&
-               all_of(client, body, length, 0)) {
+        while (client >= 0 && all_of(client, &length, 4, 0) && length >= 8 &&
+               length <= sizeof body && all_of(client, body, length, 0)) {
             Bytes whole = reply_to(body, length), sent = whole;
             UINT32 told, way = any(100);
 
             if (way < 30)
                 sent = spoiled(whole.bytes, whole.length);
-            told = way >= 37 && way < 40 ? any(4) ? any(0x2000000) : 0xFFFFFFFF - any(20) : (UINT32)sent.length;
+            told = way >= 37 && way < 40 ? any(4) ? any(0x2000000) : 0xFFFFFFFF - any(20)
+                                         : (UINT32)sent.length;
             if (way == 40)
                 usleep(15000); /* late */
             if (way == 41) {
@@ -291,8 +296,8 @@ static void serve(int listening)
                 break;
             }
             if (!all_of(client, &told, way == 42 ? any(4) : 4, 1) || way == 42 ||
-                !all_of(client, sent.bytes, way == 43 ? sent.length / 2 : sent.length, 1) || way == 43 ||
-                (way == 44 && !all_of(client, &told, 4, 1)))
+                !all_of(client, sent.bytes, way == 43 ? sent.length / 2 : sent.length, 1) ||
+                way == 43 || (way == 44 && !all_of(client, &told, 4, 1)))
                 length = 0;
             if (sent.bytes != whole.bytes)
                 free(sent.bytes);
@@ -315,7 +320,8 @@ static void count_code(HRESULT code)
         refused++;
 }
 
-/* What a host may give: floating-point numbers of any bits, values of the corpus, arrays of VARIANT that hold both. */
+/* What a host may give: floating-point numbers of any bits, values of the corpus, arrays of VARIANT
+ * that hold both. */
 static VARIANT any_scalar(void)
 {
     Bytes field = framed(fields[any((uint32_t)field_count)]);
@@ -382,7 +388,8 @@ static HRESULT fuzz_perform(Connection *connection)
     call.result = any(8) ? &result : NULL;
     refused_in = any(8) ? 0 : 1 + any(12);
     code = perform_call(&call);
-    if (call.argument != NO_ARGUMENT && call.argument >= given.cArgs && !SUCCEEDED(code) && connection->argument >= 4)
+    if (call.argument != NO_ARGUMENT && call.argument >= given.cArgs && !SUCCEEDED(code) &&
+        connection->argument >= 4)
         call.argument = NO_ARGUMENT; /* as a spoiled reply has told it: nobody looks there */
     if (code == S_OK && call.result)
         use_value(&result, target.for_scripts);
@@ -406,7 +413,8 @@ static void fuzz_library(Connection *connection)
     count_code(code);
     if (code == S_OK) {
         type = find_interface(library, &class, &GUID_NULL);
-        if (type && find_member(type, (DISPID)any(12), &member) && parameter_at(&member, any(4), &parameter))
+        if (type && find_member(type, (DISPID)any(12), &member) &&
+            parameter_at(&member, any(4), &parameter))
             copy_name(&parameter.name, name);
         find_interface_named(library, &class, L"DItem");
         find_coclass_named(library, L"Item");
@@ -426,16 +434,23 @@ static void fuzz_call(Connection *connection)
     refused_in = any(8) ? 0 : 1 + any(12);
     switch (any(6)) {
     case 0:
-        count_code(names_to_ids(connection, 0, 1, &class, &GUID_NULL, &GUID_NULL, 0, names, 1 + any(3), ids));
+        count_code(names_to_ids(connection, 0, 1, &class, &GUID_NULL, &GUID_NULL, 0, names,
+                                1 + any(3), ids));
         break;
-    case 1: fuzz_library(connection); break;
-    case 2: count_code(describe_item(connection, any(4), &item, &entries)); break;
+    case 1:
+        fuzz_library(connection);
+        break;
+    case 2:
+        count_code(describe_item(connection, any(4), &item, &entries));
+        break;
     case 3:
         write_32(begin_request(connection, OP_RELEASE), any(4));
         write_zeros(&connection->request, any(40) ? 4 : 2 * MAX_BODY);
         count_code(exchange(connection, any(4) ? ONCE : HERE));
         break;
-    default: refused_in = 0; count_code(fuzz_perform(connection));
+    default:
+        refused_in = 0;
+        count_code(fuzz_perform(connection));
     }
     refused_in = 0;
     LeaveCriticalSection(&connection->lock);
@@ -457,8 +472,8 @@ static void fuzz_connection(time_t until)
 
     at.sin_family = AF_INET;
     at.sin_addr.s_addr = htonl(INADDR_LOOPBACK);
-    if (listening < 0 || bind(listening, (struct sockaddr *)&at, sizeof at) || listen(listening, 8) ||
-        getsockname(listening, (struct sockaddr *)&at, &size))
+    if (listening < 0 || bind(listening, (struct sockaddr *)&at, sizeof at) ||
+        listen(listening, 8) || getsockname(listening, (struct sockaddr *)&at, &size))
         exit(2);
     if (!(server = fork())) {
         prctl(PR_SET_PDEATHSIG, SIGKILL); /* it ends with the other, however that ends */
@@ -511,6 +526,7 @@ int main(int count, char **words)
         free(fields[i].bytes);
     for (i = 0; i < type_count; i++)
         free(types[i].bytes);
-    printf("fields: %ld read, %ld refused; calls: %ld answered, %ld refused\n", read_well, read_ill, answered, refused);
+    printf("fields: %ld read, %ld refused; calls: %ld answered, %ld refused\n", read_well, read_ill,
+           answered, refused);
     return 0;
 }

@@ -1,17 +1,17 @@
-/* What hosts do beside late binding: they load the registered type library and call by its DISPIDs, on an interface of
-   their own; they have several apartments; they unload the DLL. The classes are those of tests/demo.idl, registered
-   with Script = 0.
+/* What hosts do beside late binding: they load the registered type library and call by its DISPIDs,
+   on an interface of their own; they have several apartments; they unload the DLL. The classes are
+   those of tests/demo.idl, registered with Script = 0.
 
        hosts early         with the type library registered
        hosts written       with the one that the DLL has written, as it was registered, and its hub
        hosts plain         without one
-       hosts apartments    with the type library registered, by which the first interface is marshalled
-       hosts waits         one apartment waits for a change, which the other makes
-       hosts turns FILE    two threads wait with one hub: "ready" says that the second one has, and that a change may come
-       hosts calls COUNT   makes so many calls, and prints what the process has of handles and bytes between them
-       hosts unloads FILE  puts a number once there is such a file, while the server is stopped: "sent" says that it may
-                           go on
-       hosts keeps FILE    keeps a DISPID, and puts by it once there is such a file and a server with another library */
+       hosts apartments    with the type library registered, by which the first interface is
+   marshalled hosts waits         one apartment waits for a change, which the other makes hosts
+   turns FILE    two threads wait with one hub: "ready" says that the second one has, and that a
+   change may come hosts calls COUNT   makes so many calls, and prints what the process has of
+   handles and bytes between them hosts unloads FILE  puts a number once there is such a file, while
+   the server is stopped: "sent" says that it may go on hosts keeps FILE    keeps a DISPID, and puts
+   by it once there is such a file and a server with another library */
 #define COBJMACROS
 #include <windows.h>
 #include <oleauto.h>
@@ -22,9 +22,12 @@
 #include <stdlib.h>
 #include <string.h>
 
-static const GUID DEMO = {0x11223344, 0x5566, 0x7788, {0x99, 0xAA, 0xBB, 0xCC, 0xDD, 0xEE, 0xFF, 0x01}};
-static const GUID IID_DItem = {0x11223344, 0x5566, 0x7788, {0x99, 0xAA, 0xBB, 0xCC, 0xDD, 0xEE, 0xFF, 0x02}};
-static const GUID IID_DStock = {0x11223344, 0x5566, 0x7788, {0x99, 0xAA, 0xBB, 0xCC, 0xDD, 0xEE, 0xFF, 0x04}};
+static const GUID DEMO = {
+    0x11223344, 0x5566, 0x7788, {0x99, 0xAA, 0xBB, 0xCC, 0xDD, 0xEE, 0xFF, 0x01}};
+static const GUID IID_DItem = {
+    0x11223344, 0x5566, 0x7788, {0x99, 0xAA, 0xBB, 0xCC, 0xDD, 0xEE, 0xFF, 0x02}};
+static const GUID IID_DStock = {
+    0x11223344, 0x5566, 0x7788, {0x99, 0xAA, 0xBB, 0xCC, 0xDD, 0xEE, 0xFF, 0x04}};
 static CLSID class;
 
 static void tell(BOOL well, const char *name, HRESULT code)
@@ -51,7 +54,8 @@ static HRESULT put(IDispatch *object, DISPID id, VARTYPE type, LONGLONG number)
     VariantInit(&value);
     V_VT(&value) = type;
     V_I8(&value) = number;
-    return IDispatch_Invoke(object, id, &IID_NULL, 0, DISPATCH_PROPERTYPUT, &given, NULL, NULL, NULL);
+    return IDispatch_Invoke(object, id, &IID_NULL, 0, DISPATCH_PROPERTYPUT, &given, NULL, NULL,
+                            NULL);
 }
 
 /* What a property holds, where it is of this type; else -1. */
@@ -61,7 +65,8 @@ static LONGLONG get(IDispatch *object, DISPID id, VARTYPE type)
     VARIANT value;
     HRESULT code;
 
-    code = IDispatch_Invoke(object, id, &IID_NULL, 0, DISPATCH_PROPERTYGET, &none, &value, NULL, NULL);
+    code = IDispatch_Invoke(object, id, &IID_NULL, 0, DISPATCH_PROPERTYGET, &none, &value, NULL,
+                            NULL);
     if (code != S_OK || V_VT(&value) != type)
         return -1;
     return type == VT_I4 ? V_I4(&value) : V_I8(&value);
@@ -90,12 +95,13 @@ static const char *line_of(ITypeInfo *type)
     if (!type || FAILED(ITypeInfo_GetTypeAttr(type, &attributes)))
         return line;
     ITypeInfo_GetDocumentation(type, MEMBERID_NIL, &name, NULL, NULL, NULL);
-    while (SUCCEEDED(ITypeInfo_GetFuncDesc(type, functions, &function))) { /* Wine counts IDispatch's in cFuncs too */
+    /* Wine counts IDispatch's in cFuncs too */
+    while (SUCCEEDED(ITypeInfo_GetFuncDesc(type, functions, &function))) {
         ITypeInfo_ReleaseFuncDesc(type, function);
         functions++;
     }
-    sprintf(line, "%ls %x kind %d vars %u funcs %u", name ? name : L"", attributes->guid.Data4[7], attributes->typekind,
-            attributes->cVars, functions);
+    sprintf(line, "%ls %x kind %d vars %u funcs %u", name ? name : L"", attributes->guid.Data4[7],
+            attributes->typekind, attributes->cVars, functions);
     SysFreeString(name);
     ITypeInfo_ReleaseTypeAttr(type, attributes);
     return line;
@@ -116,7 +122,8 @@ static void interfaces(void)
     tell(code == S_OK && own == item, "the default interface", code);
     code = IDispatch_QueryInterface(item, &IID_DStock, (void **)&stock);
     tell(code == S_OK && stock != item, "the second interface", code);
-    tell(put(item, 1, VT_I4, 7) == S_OK && put(stock, 1, VT_CY, 25000) == S_OK, "puts of the member 1 of both", S_OK);
+    tell(put(item, 1, VT_I4, 7) == S_OK && put(stock, 1, VT_CY, 25000) == S_OK,
+         "puts of the member 1 of both", S_OK);
     tell(get(item, 1, VT_I4) == 7 && get(stock, 1, VT_CY) == 25000, "are two properties", S_OK);
     IDispatch_QueryInterface(item, &IID_IUnknown, (void **)&one);
     IDispatch_QueryInterface(stock, &IID_IUnknown, (void **)&two);
@@ -133,10 +140,12 @@ static void interfaces(void)
     IUnknown_Release(two);
     IDispatch_Release(own);
     IDispatch_Release(item); /* the second interface keeps the object */
-    tell(get(stock, 1, VT_CY) == 25000, "the second interface outlives the first one's pointer", S_OK);
+    tell(get(stock, 1, VT_CY) == 25000, "the second interface outlives the first one's pointer",
+         S_OK);
     IDispatch_Release(stock);
     code = create(&IID_DStock, &stock);
-    tell(code == S_OK && get(stock, 1, VT_CY) == 0, "an object is made with its second interface", code);
+    tell(code == S_OK && get(stock, 1, VT_CY) == 0, "an object is made with its second interface",
+         code);
     if (code == S_OK)
         IDispatch_Release(stock);
     code = create(&DEMO, &stock);
@@ -167,12 +176,14 @@ static void types(const char *wanted)
         type = NULL;
         code = IProvideClassInfo_GetClassInfo(information, &type);
     }
-    tell(code == S_OK && !strcmp(line_of(type), "Item 3 kind 5 vars 0 funcs 0"), "GetClassInfo", code);
+    tell(code == S_OK && !strcmp(line_of(type), "Item 3 kind 5 vars 0 funcs 0"), "GetClassInfo",
+         code);
     if (code == S_OK)
         code = ITypeInfo_GetRefTypeOfImplType(type, 0, &reference);
     if (code == S_OK)
         code = ITypeInfo_GetRefTypeInfo(type, reference, &its);
-    tell(code == S_OK && !strcmp(line_of(its), "DItem 2 kind 4 vars 8 funcs 14"), "its default interface", code);
+    tell(code == S_OK && !strcmp(line_of(its), "DItem 2 kind 4 vars 8 funcs 14"),
+         "its default interface", code);
     if (code != S_OK || strcmp(line_of(its), "DItem 2 kind 4 vars 8 funcs 14"))
         printf("     %s\n", line_of(its));
     if (its)
@@ -247,7 +258,8 @@ static HRESULT library_of_class(REFCLSID clsid, GUID *library)
     return CLSIDFromString(text, library);
 }
 
-/* Prints a member as an editor shows it: its name, DISPID, kind, and its parameters by their names. */
+/* Prints a member as an editor shows it: its name, DISPID, kind, and its parameters by their
+ * names. */
 static void print_members(const char *title, ITypeInfo *type)
 {
     FUNCDESC *function;
@@ -293,7 +305,8 @@ static void hub_types(REFGUID guid)
         code = ITypeInfo_GetRefTypeOfImplType(type, 0, &reference);
     if (code == S_OK)
         code = ITypeInfo_GetRefTypeInfo(type, reference, &face);
-    tell(code == S_OK && !strcmp(line_of(type), "Store 2 kind 5 vars 0 funcs 0"), "its class", code);
+    tell(code == S_OK && !strcmp(line_of(type), "Store 2 kind 5 vars 0 funcs 0"), "its class",
+         code);
     print_members("written", face);
     if (code == S_OK)
         code = CoCreateInstance(&clsid, NULL, CLSCTX_INPROC_SERVER, &IID_IDispatch, (void **)&hub);
@@ -311,13 +324,14 @@ static void hub_types(REFGUID guid)
     V_BSTR(&word) = SysAllocString(L"Item");
     arguments.rgvarg = &word;
     if (code == S_OK)
-        code = IDispatch_Invoke(hub, id_in(face, L"Objects"), &IID_NULL, 0, DISPATCH_METHOD, &arguments, &found, NULL,
-                                NULL);
+        code = IDispatch_Invoke(hub, id_in(face, L"Objects"), &IID_NULL, 0, DISPATCH_METHOD,
+                                &arguments, &found, NULL, NULL);
     items = V_VT(&found) == VT_DISPATCH ? V_DISPATCH(&found) : NULL;
     if (code == S_OK)
         code = items ? IDispatch_GetTypeInfo(items, 0, 0, &told) : E_FAIL;
     print_members("collection", code == S_OK ? told : NULL);
-    tell(code == S_OK && id_in(told, L"Count") == 2 && id_in(face, L"Count") == 2, "a collection's types", code);
+    tell(code == S_OK && id_in(told, L"Count") == 2 && id_in(face, L"Count") == 2,
+         "a collection's types", code);
     if (code == S_OK && (code = ITypeInfo_GetTypeAttr(told, &attributes)) == S_OK) {
         code = IDispatch_QueryInterface(items, &attributes->guid, (void **)&own);
         ITypeInfo_ReleaseTypeAttr(told, attributes);
@@ -343,7 +357,8 @@ static void written(void)
 
 /* ---- apartments */
 
-/* What the hub's InterfaceOf gives: the object as its second interface, for hosts that call by IDispatch. */
+/* What the hub's InterfaceOf gives: the object as its second interface, for hosts that call by
+ * IDispatch. */
 static HRESULT second_interface(IDispatch *item, IDispatch **found)
 {
     VARIANT given[2], told;
@@ -386,7 +401,8 @@ static DWORD WINAPI other_apartment(void *context)
     CoInitialize(NULL);
     passed->code = CoGetInterfaceAndReleaseStream(passed->streams[0], &IID_DItem, (void **)&item);
     if (passed->code == S_OK)
-        passed->code = CoGetInterfaceAndReleaseStream(passed->streams[1], &IID_IDispatch, (void **)&stock);
+        passed->code = CoGetInterfaceAndReleaseStream(passed->streams[1], &IID_IDispatch,
+                                                      (void **)&stock);
     if (passed->code == S_OK) {
         passed->second = IDispatch_QueryInterface(item, &IID_DStock, (void **)&wrong);
         passed->code = put(item, 1, VT_I4, 40);
@@ -451,13 +467,14 @@ static void apartments(void)
     tell(FAILED(code), "a second interface is not marshalled", code);
     code = CoMarshalInterThreadInterfaceInStream(&IID_DItem, (IUnknown *)item, &passed.streams[0]);
     if (code == S_OK)
-        code = CoMarshalInterThreadInterfaceInStream(&IID_IDispatch, (IUnknown *)stock, &passed.streams[1]);
+        code = CoMarshalInterThreadInterfaceInStream(&IID_IDispatch, (IUnknown *)stock,
+                                                     &passed.streams[1]);
     tell(code == S_OK, "the first one is, and what InterfaceOf gives", code);
     if (code != S_OK)
         return;
     wait_for(CreateThread(NULL, 0, other_apartment, &passed, 0, NULL));
-    tell(passed.code == S_OK && passed.numbers[0] == 40 && passed.numbers[1] == 50000, "calls from another apartment",
-         passed.code);
+    tell(passed.code == S_OK && passed.numbers[0] == 40 && passed.numbers[1] == 50000,
+         "calls from another apartment", passed.code);
     tell(FAILED(passed.second), "which has no second interface", passed.second);
     tell(get(item, 1, VT_I4) == 40 && get(stock, 1, VT_CY) == 50000, "are there in its own", S_OK);
     for (i = 0; i < 2; i++)
@@ -497,7 +514,8 @@ static DWORD WINAPI waiting_apartment(void *context)
     CoInitialize(NULL);
     waited->code = CLSIDFromProgID(L"Demo.Store", &clsid);
     if (waited->code == S_OK)
-        waited->code = CoCreateInstance(&clsid, NULL, CLSCTX_INPROC_SERVER, &IID_IDispatch, (void **)&hub);
+        waited->code = CoCreateInstance(&clsid, NULL, CLSCTX_INPROC_SERVER, &IID_IDispatch,
+                                        (void **)&hub);
     if (waited->code == S_OK)
         waited->code = wait_for_change(hub, 600000, &waited->first);
     SetEvent(waited->is_begun);
@@ -538,9 +556,10 @@ static void waits(void)
     code = put(item, 1, VT_I4, 41);
     tell(code == S_OK, "a put while another apartment waits", code);
     wait_for(thread);
-    tell(waited.code == S_OK && V_VT(&waited.first) == VT_I4 && V_I4(&waited.first) == -1, "the first wait begins",
-         waited.code);
-    tell(waited.code == S_OK && V_VT(&waited.second) == VT_I4 && V_I4(&waited.second) == V_I4(&number),
+    tell(waited.code == S_OK && V_VT(&waited.first) == VT_I4 && V_I4(&waited.first) == -1,
+         "the first wait begins", waited.code);
+    tell(waited.code == S_OK && V_VT(&waited.second) == VT_I4 &&
+             V_I4(&waited.second) == V_I4(&number),
          "the second one gives the object's number", waited.code);
     IDispatch_Release(hub);
     IDispatch_Release(item);
@@ -574,7 +593,8 @@ static void turns(void)
 
     memset(&turn, 0, sizeof turn);
     if (code == S_OK)
-        code = CoCreateInstance(&clsid, NULL, CLSCTX_INPROC_SERVER, &IID_IDispatch, (void **)&turn.hub);
+        code = CoCreateInstance(&clsid, NULL, CLSCTX_INPROC_SERVER, &IID_IDispatch,
+                                (void **)&turn.hub);
     if (code == S_OK)
         code = wait_for_change(turn.hub, 600000, &told);
     tell(code == S_OK && V_VT(&told) == VT_I4 && V_I4(&told) == -1, "a wait begins", code);
@@ -589,7 +609,8 @@ static void turns(void)
     puts("ready");
     fflush(stdout);
     wait_for(thread);
-    tell(turn.code == S_OK && V_VT(&turn.told) == VT_I4 && V_I4(&turn.told) == 3, "the first one goes on", turn.code);
+    tell(turn.code == S_OK && V_VT(&turn.told) == VT_I4 && V_I4(&turn.told) == 3,
+         "the first one goes on", turn.code);
     IDispatch_Release(turn.hub);
 }
 
@@ -631,7 +652,8 @@ static void unloads(const char *file)
     tell(!is_answered, "a reply is out", S_OK);
     for (i = 0; i < 3; i++)
         CoFreeUnusedLibrariesEx(0, 0);
-    tell(GetModuleHandleA("oautcom.dll") && can_unload() == S_FALSE, "the DLL stays while a reply is out", S_OK);
+    tell(GetModuleHandleA("oautcom.dll") && can_unload() == S_FALSE,
+         "the DLL stays while a reply is out", S_OK);
     puts("sent");
     fflush(stdout);
     WaitForSingleObject(thread, INFINITE);
@@ -644,7 +666,8 @@ static void unloads(const char *file)
         CoFreeUnusedLibrariesEx(0, 0);
     tell(!GetModuleHandleA("oautcom.dll"), "it goes", S_OK);
     code = create(&IID_IDispatch, &item);
-    tell(code == S_OK && put(item, 1, VT_I4, 5) == S_OK && get(item, 1, VT_I4) == 5, "and comes back", code);
+    tell(code == S_OK && put(item, 1, VT_I4, 5) == S_OK && get(item, 1, VT_I4) == 5,
+         "and comes back", code);
     if (item)
         IDispatch_Release(item);
 }
@@ -695,8 +718,10 @@ static void keeps(const char *file)
     tell(get(item, id, VT_I4) == -1, "and a get", S_OK);
     if ((again = first_object()))
         code = IDispatch_GetIDsOfNames(again, &IID_NULL, &names, 1, 0, &other);
-    tell(again && code == S_OK && other == 17, "the object that is made again has the other DISPID", code);
-    tell(again && put(again, other, VT_I4, 43) == S_OK && get(again, other, VT_I4) == 43, "and may be called", S_OK);
+    tell(again && code == S_OK && other == 17, "the object that is made again has the other DISPID",
+         code);
+    tell(again && put(again, other, VT_I4, 43) == S_OK && get(again, other, VT_I4) == 43,
+         "and may be called", S_OK);
     code = put(item, id, VT_I4, 44);
     tell(code == (HRESULT)0x800706B5, "the earlier one is refused as before", code);
     IDispatch_Release(item);
@@ -724,8 +749,10 @@ static VARIANT number_of(LONG number)
     return made;
 }
 
-/* A call whose arguments and result are freed; whether it ended with this code, and if it was refused with words. */
-static BOOL called(IDispatch *object, DISPID id, WORD flags, VARIANT *values, UINT count, HRESULT wanted)
+/* A call whose arguments and result are freed; whether it ended with this code, and if it was
+ * refused with words. */
+static BOOL called(IDispatch *object, DISPID id, WORD flags, VARIANT *values, UINT count,
+                   HRESULT wanted)
 {
     DISPID name = DISPID_PROPERTYPUT;
     DISPPARAMS given = {values, &name, count, flags == DISPATCH_PROPERTYPUT ? 1 : 0};
@@ -765,7 +792,8 @@ static VARIANT array_of(LONG number)
     return made;
 }
 
-/* Calls of each kind: how many went as they should. An object is made and released, another one is found by its number. */
+/* Calls of each kind: how many went as they should. An object is made and released, another one is
+ * found by its number. */
 static int round_of_calls(IDispatch *hub, IDispatch *item, LONG round)
 {
     static const WCHAR *const names[] = {L"Name", L"nothing"};
@@ -803,7 +831,8 @@ static int round_of_calls(IDispatch *hub, IDispatch *item, LONG round)
     for (i = 0; i < 2; i++) {
         LPOLESTR name = (LPOLESTR)names[i];
 
-        well += IDispatch_GetIDsOfNames(item, &IID_NULL, &name, 1, 0, &id) == (i ? DISP_E_UNKNOWNNAME : S_OK);
+        well += IDispatch_GetIDsOfNames(item, &IID_NULL, &name, 1, 0, &id) ==
+                (i ? DISP_E_UNKNOWNNAME : S_OK);
     }
     well += called(hub, 2, DISPATCH_PROPERTYGET, values, 0, S_OK);
     values[0] = number_of(1);
@@ -852,12 +881,14 @@ static SIZE_T heap_bytes(void)
 static void print_resources(LONGLONG calls)
 {
     PROCESS_MEMORY_COUNTERS_EX counters;
-    HANDLE next = CreateEventW(NULL, FALSE, FALSE, NULL); /* the lowest number that is free: Wine counts none */
+    /* the lowest number that is free: Wine counts none */
+    HANDLE next = CreateEventW(NULL, FALSE, FALSE, NULL);
     ULONG_PTR handles = (ULONG_PTR)next / 4;
 
     CloseHandle(next);
     memset(&counters, 0, sizeof counters);
-    K32GetProcessMemoryInfo(GetCurrentProcess(), (PROCESS_MEMORY_COUNTERS *)&counters, sizeof counters);
+    K32GetProcessMemoryInfo(GetCurrentProcess(), (PROCESS_MEMORY_COUNTERS *)&counters,
+                            sizeof counters);
     printf("calls %lld handles %llu bytes %llu heap %llu\n", calls, (unsigned long long)handles,
            (unsigned long long)counters.WorkingSetSize, (unsigned long long)heap_bytes());
     fflush(stdout);
@@ -877,7 +908,8 @@ static void many_calls(LONGLONG wanted)
     if (code == S_OK)
         code = create(&IID_IDispatch, &item);
     tell(code == S_OK, "the objects are made", code);
-    for (calls = 0; code == S_OK && calls < wanted && well == CALLS_OF_A_ROUND; calls += CALLS_OF_A_ROUND) {
+    for (calls = 0; code == S_OK && calls < wanted && well == CALLS_OF_A_ROUND;
+         calls += CALLS_OF_A_ROUND) {
         if (calls >= next) {
             print_resources(calls);
             next += wanted / 10;

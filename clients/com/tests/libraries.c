@@ -2,8 +2,9 @@
 
        libraries FOLDER COUNT SEED
 
-   makes COUNT of them: with names that are none, types and aliases that lead anywhere and back, members by the hundred, calls that fail now and then,
-   and memory that is refused. Each ends with a text or with a line; what was taken is given back. Each 50th text is written to FOLDER, for
+   makes COUNT of them: with names that are none, types and aliases that lead anywhere and back,
+   members by the hundred, calls that fail now and then, and memory that is refused. Each ends with
+   a text or with a line; what was taken is given back. Each 50th text is written to FOLDER, for
    `oaut check`, which has to take it as it stands. Prints how many ended in which way. */
 #include "linux/typelib.h"
 
@@ -21,6 +22,7 @@ typedef struct Block {
     struct Block *before, *behind;
     size_t pad[2];
 } Block;
+
 static Block blocks_list = {&blocks_list, &blocks_list, {0, 0}};
 
 static void *own_calloc(size_t count, size_t size)
@@ -68,11 +70,13 @@ static uint32_t any(uint32_t below)
     return (uint32_t)((state >> 33) % below);
 }
 
-/* ---- a type library: each answer is made anew of the seed of what was asked, so the same question has the same answer */
+/* ---- a type library: each answer is made anew of the seed of what was asked, so the same question
+ * has the same answer */
 
 struct ITypeLib {
     int none;
 };
+
 struct ITypeInfo {
     UINT place;
 };
@@ -83,6 +87,7 @@ static struct {
     unsigned mood;
     ITypeInfo infos[700];
 } made;
+
 static long taken; /* what was taken and has to be given back */
 
 static uint64_t begin(uint32_t what, uint32_t place, uint32_t detail)
@@ -102,8 +107,9 @@ static BOOL fails(void)
 
 static BSTR name_by_chance(uint32_t what, uint32_t place, uint32_t detail)
 {
-    static const char *const some[] = {"long",   "properties", "a b",   "1st",  "_",       "Value", "value",
-                                       "VALUE_", "Count",      "count", "Item", "library", ""};
+    static const char *const some[] = {"long",  "properties", "a b",    "1st",   "_",
+                                       "Value", "value",      "VALUE_", "Count", "count",
+                                       "Item",  "library",    ""};
     uint64_t was = begin(what, place, detail);
     char bytes[80] = "";
     WCHAR *wide;
@@ -114,7 +120,8 @@ static BSTR name_by_chance(uint32_t what, uint32_t place, uint32_t detail)
     else if (!any(60))
         memset(bytes, 'n', 60 + any(10));
     else
-        snprintf(bytes, sizeof bytes, "%c%u_%u", "NmPx"[what % 4], any(6) ? place : any(3), any(8) ? detail : any(3));
+        snprintf(bytes, sizeof bytes, "%c%u_%u", "NmPx"[what % 4], any(6) ? place : any(3),
+                 any(8) ? detail : any(3));
     length = strlen(bytes);
     wide = calloc(length + 3, sizeof *wide);
     *(UINT *)wide = (UINT)(length * sizeof *wide);
@@ -140,8 +147,8 @@ void SysFreeString(BSTR text)
     }
 }
 
-int WideCharToMultiByte(UINT page, DWORD flags, const WCHAR *wide, int count, char *bytes, int room, const char *other,
-                        BOOL *used)
+int WideCharToMultiByte(UINT page, DWORD flags, const WCHAR *wide, int count, char *bytes, int room,
+                        const char *other, BOOL *used)
 {
     int i, length = 0;
 
@@ -175,9 +182,10 @@ static GUID guid_by_chance(uint32_t place)
 /* A type; what it points to hangs on `parts`, which has room for PARTS. */
 static TYPEDESC type_by_chance(TYPEDESC *parts)
 {
-    static const VARTYPE plain[] = {VT_I2,      VT_I4,   VT_BSTR,    VT_BOOL, VT_VARIANT, VT_CY,  VT_ERROR,
-                                    VT_DECIMAL, VT_I1,   VT_UI1,     VT_UI2,  VT_UI4,     VT_I8,  VT_UI8,
-                                    VT_INT,     VT_UINT, VT_HRESULT, VT_R4,   VT_R8,      VT_DATE};
+    static const VARTYPE plain[] = {VT_I2,   VT_I4,      VT_BSTR,    VT_BOOL, VT_VARIANT,
+                                    VT_CY,   VT_ERROR,   VT_DECIMAL, VT_I1,   VT_UI1,
+                                    VT_UI2,  VT_UI4,     VT_I8,      VT_UI8,  VT_INT,
+                                    VT_UINT, VT_HRESULT, VT_R4,      VT_R8,   VT_DATE};
     TYPEDESC found = {{NULL}, 0};
     unsigned used = 0;
     TYPEDESC *at = &found;
@@ -188,7 +196,9 @@ static TYPEDESC type_by_chance(TYPEDESC *parts)
         at = at->lptdesc;
     }
     memset(at, 0, sizeof *at);
-    at->vt = any(6) ? plain[any(sizeof plain / sizeof *plain)] : any(4) ? VT_USERDEFINED : (VARTYPE)any(80);
+    at->vt = any(6)   ? plain[any(sizeof plain / sizeof *plain)]
+             : any(4) ? VT_USERDEFINED
+                      : (VARTYPE)any(80);
     if (at->vt == VT_USERDEFINED)
         at->hreftype = any(made.count + 1);
     else if (at->vt == VT_PTR || at->vt == VT_SAFEARRAY || at->vt == VT_CARRAY) {
@@ -235,7 +245,8 @@ void ITypeLib_ReleaseTLibAttr(ITypeLib *of, TLIBATTR *attributes)
     taken--;
 }
 
-HRESULT ITypeLib_GetDocumentation(ITypeLib *of, INT place, BSTR *name, BSTR *text, DWORD *context, BSTR *file)
+HRESULT ITypeLib_GetDocumentation(ITypeLib *of, INT place, BSTR *name, BSTR *text, DWORD *context,
+                                  BSTR *file)
 {
     (void)of, (void)place, (void)text, (void)context, (void)file;
     *name = name_by_chance(0, 100000, 0);
@@ -256,12 +267,15 @@ void ITypeInfo_Release(ITypeInfo *info)
 
 HRESULT ITypeInfo_GetTypeAttr(ITypeInfo *info, TYPEATTR **attributes)
 {
-    static const TYPEKIND some[] = {TKIND_DISPATCH, TKIND_DISPATCH, TKIND_INTERFACE, TKIND_COCLASS, TKIND_ALIAS,
-                                    TKIND_ALIAS,    TKIND_ENUM,     TKIND_RECORD,    TKIND_UNION,   TKIND_MODULE};
+    static const TYPEKIND some[] = {TKIND_DISPATCH, TKIND_DISPATCH, TKIND_INTERFACE, TKIND_COCLASS,
+                                    TKIND_ALIAS,    TKIND_ALIAS,    TKIND_ENUM,      TKIND_RECORD,
+                                    TKIND_UNION,    TKIND_MODULE};
+
     struct {
         TYPEATTR attributes;
         TYPEDESC parts[PARTS];
     } * all;
+
     uint64_t was;
 
     if (fails())
@@ -272,11 +286,14 @@ HRESULT ITypeInfo_GetTypeAttr(ITypeInfo *info, TYPEATTR **attributes)
     all->attributes.typekind = made.mood == 2 ? (info->place % 2 ? TKIND_COCLASS : TKIND_DISPATCH)
                                               : some[any(sizeof some / sizeof *some)];
     all->attributes.wTypeFlags = any(2) ? 0 : TYPEFLAG_FDUAL;
-    all->attributes.cImplTypes = (WORD)(all->attributes.typekind == TKIND_COCLASS ? any(9) : any(5) ? 1 : 0);
+    all->attributes.cImplTypes = (WORD)(all->attributes.typekind == TKIND_COCLASS ? any(9)
+                                        : any(5)                                  ? 1
+                                                                                  : 0);
     all->attributes.cFuncs = (WORD)(any(300) ? any(12) : any(1100));
     all->attributes.cVars = (WORD)(all->attributes.typekind == TKIND_DISPATCH ? any(12) : 0);
     all->attributes.tdescAlias = type_by_chance(all->parts);
-    all->attributes.guid = info->place == made.count - 1 && any(2) ? iid_dispatch : guid_by_chance(info->place);
+    all->attributes.guid = info->place == made.count - 1 && any(2) ? iid_dispatch
+                                                                   : guid_by_chance(info->place);
     state = was;
     taken++;
     return S_OK;
@@ -291,7 +308,9 @@ void ITypeInfo_ReleaseTypeAttr(ITypeInfo *info, TYPEATTR *attributes)
 
 static MEMBERID id_by_chance(uint32_t place)
 {
-    return any(15) ? (MEMBERID)(place / 2) : any(3) ? (MEMBERID)any(5) - 4 : (MEMBERID)(0x60000000 + any(3));
+    return any(15)  ? (MEMBERID)(place / 2)
+           : any(3) ? (MEMBERID)any(5) - 4
+                    : (MEMBERID)(0x60000000 + any(3));
 }
 
 HRESULT ITypeInfo_GetFuncDesc(ITypeInfo *info, UINT place, FUNCDESC **function)
@@ -302,6 +321,7 @@ HRESULT ITypeInfo_GetFuncDesc(ITypeInfo *info, UINT place, FUNCDESC **function)
         PARAMDESCEX defaults[40];
         TYPEDESC parts[41][PARTS];
     } * all;
+
     uint64_t was;
     int i;
 
@@ -324,7 +344,8 @@ HRESULT ITypeInfo_GetFuncDesc(ITypeInfo *info, UINT place, FUNCDESC **function)
 
         one->tdesc = type_by_chance(all->parts[i]);
         one->paramdesc.wParamFlags = (USHORT)(any(3) ? 1 : any(0x40));
-        if (i == all->function.cParams - 1 && any(2) && all->function.invkind == INVOKE_PROPERTYGET) {
+        if (i == all->function.cParams - 1 && any(2) &&
+            all->function.invkind == INVOKE_PROPERTYGET) {
             one->paramdesc.wParamFlags = 0xA;
             all->parts[i][PARTS - 1] = one->tdesc;
             one->tdesc.vt = VT_PTR;
@@ -366,6 +387,7 @@ HRESULT ITypeInfo_GetVarDesc(ITypeInfo *info, UINT place, VARDESC **variable)
         VARDESC variable;
         TYPEDESC parts[PARTS];
     } * all;
+
     uint64_t was;
 
     if (fails())
@@ -403,7 +425,8 @@ HRESULT ITypeInfo_GetNames(ITypeInfo *info, MEMBERID id, BSTR *names, UINT most,
     return S_OK;
 }
 
-HRESULT ITypeInfo_GetDocumentation(ITypeInfo *info, MEMBERID id, BSTR *name, BSTR *text, DWORD *context, BSTR *file)
+HRESULT ITypeInfo_GetDocumentation(ITypeInfo *info, MEMBERID id, BSTR *name, BSTR *text,
+                                   DWORD *context, BSTR *file)
 {
     (void)id, (void)text, (void)context, (void)file;
     if (fails())
@@ -467,7 +490,8 @@ int main(int count, char **words)
             refused = 0;
             kept++;
             if (taken || text.length > TEXT_LIMIT) {
-                printf("seed %s, %ld: %ld not given back, %zu bytes\n", words[3], place, taken, text.length);
+                printf("seed %s, %ld: %ld not given back, %zu bytes\n", words[3], place, taken,
+                       text.length);
                 return 1;
             }
             if (kept % 50 == 0) {
@@ -476,7 +500,8 @@ int main(int count, char **words)
 
                 snprintf(path, sizeof path, "%s/%ld.idl", words[1], place);
                 file = fopen(path, "wb");
-                if (!file || fwrite(text.bytes, 1, text.length, file) != text.length || fclose(file))
+                if (!file || fwrite(text.bytes, 1, text.length, file) != text.length ||
+                    fclose(file))
                     return 2;
             }
         } else if (how == 2)

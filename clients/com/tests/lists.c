@@ -2,9 +2,9 @@
 
        lists OPCODE COUNT REFUSED
 
-   A server of its own replies to requests of this opcode with COUNT objects. The REFUSED-th allocation of the request is
-   refused, 0 for none. Prints the code, the bytes of the reply's fields, how many locks are left, and the code of a
-   request after it. */
+   A server of its own replies to requests of this opcode with COUNT objects. The REFUSED-th
+   allocation of the request is refused, 0 for none. Prints the code, the bytes of the reply's
+   fields, how many locks are left, and the code of a request after it. */
 #define OWN_SOCKETS
 #include "../library.h"
 
@@ -81,7 +81,8 @@ int main(int words_given, char **words)
     HRESULT code;
     pid_t child;
 
-    assert(words_given == 4 && !bind(listening, (struct sockaddr *)&place, size) && !listen(listening, 8));
+    assert(words_given == 4 && !bind(listening, (struct sockaddr *)&place, size) &&
+           !listen(listening, 8));
     getsockname(listening, (struct sockaddr *)&place, &size);
     if (!(child = fork())) {
         prctl(PR_SET_PDEATHSIG, SIGKILL);
@@ -100,7 +101,8 @@ int main(int words_given, char **words)
     refused_in = atoi(words[3]);
     code = ask(connection, (enum opcode)atoi(words[1]));
     refused_in = 0;
-    printf("%08x %zu %d ", (unsigned)code, code == S_OK ? reply_fields(connection).length : 0, connection->locks);
+    printf("%08x %zu %d ", (unsigned)code, code == S_OK ? reply_fields(connection).length : 0,
+           connection->locks);
     printf("%08x\n", (unsigned)ask(connection, OP_UNLOCK));
     connection_leave(connection, S_OK);
     connection_release(connection);

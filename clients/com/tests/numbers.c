@@ -1,6 +1,7 @@
-/* Reads floating-point numbers from standard input, one a line: the type (4 or 5), its bits in hexadecimal digits, and
-   the type that is declared for it. Prints the type of what the bridge makes of it and its content, a decimal as
-   digits and scale, or the code where it makes nothing. */
+/* Reads floating-point numbers from standard input, one a line: the type (4 or 5), its bits in
+   hexadecimal digits, and the type that is declared for it. Prints the type of what the bridge
+   makes of it and its content, a decimal as digits and scale, or the code where it makes
+   nothing. */
 #include "../values.h"
 
 #include <stdio.h>
@@ -9,8 +10,8 @@
 
 static void print_decimal(const DECIMAL *number)
 {
-    printf("14 %s%x%016llx %u\n", number->sign ? "-" : "", (unsigned)number->Hi32, (unsigned long long)number->Lo64,
-           number->scale);
+    printf("14 %s%x%016llx %u\n", number->sign ? "-" : "", (unsigned)number->Hi32,
+           (unsigned long long)number->Lo64, number->scale);
 }
 
 int main(void)

@@ -2,9 +2,10 @@
 
        window STEP ..
 
-   where a step is  set=NUMBER=TEXT  (a field),  check=NUMBER,  press=NUMBER  (a button; it waits until the buttons are
-   there again),  start=NUMBER  (a button; it does not wait),  choose=PLACE  (a line of the list),  field=NUMBER,  list,
-   said,  file=NAME  (which is made),  close  or  closing  (which goes on once the window has heard of it). */
+   where a step is  set=NUMBER=TEXT  (a field),  check=NUMBER,  press=NUMBER  (a button; it waits
+   until the buttons are there again),  start=NUMBER  (a button; it does not wait),  choose=PLACE (a
+   line of the list),  field=NUMBER,  list, said,  file=NAME  (which is made),  close  or  closing
+   (which goes on once the window has heard of it). */
 #include <windows.h>
 
 #include <stdio.h>
@@ -59,7 +60,8 @@ static void wait_until_done(void)
         Sleep(20);
 }
 
-/* The window, once its fields are filled: it is there before that, and what is done to it then is lost. */
+/* The window, once its fields are filled: it is there before that, and what is done to it then is
+ * lost. */
 static HWND find_window(void)
 {
     ULONGLONG until = GetTickCount64() + WAIT;
@@ -67,7 +69,8 @@ static HWND find_window(void)
     HWND found;
 
     while (!(found = FindWindowW(NULL, L"" WINDOW_TITLE)) ||
-           !SendDlgItemMessageW(found, WINDOW_ADDRESS, WM_GETTEXT, ARRAYSIZE(address), (LPARAM)address)) {
+           !SendDlgItemMessageW(found, WINDOW_ADDRESS, WM_GETTEXT, ARRAYSIZE(address),
+                                (LPARAM)address)) {
         if (GetTickCount64() >= until)
             return NULL;
         Sleep(20);
@@ -92,7 +95,8 @@ static void step(char *words)
     } else if (!strncmp(words, "start=", 6)) {
         SendDlgItemMessageW(window, part, BM_CLICK, 0, 0);
     } else if (!strncmp(words, "file=", 5)) {
-        CloseHandle(CreateFileA(words + 5, GENERIC_WRITE, 0, NULL, CREATE_NEW, FILE_ATTRIBUTE_NORMAL, NULL));
+        CloseHandle(CreateFileA(words + 5, GENERIC_WRITE, 0, NULL, CREATE_NEW,
+                                FILE_ATTRIBUTE_NORMAL, NULL));
     } else if (!strncmp(words, "choose=", 7)) {
         SendDlgItemMessageW(window, WINDOW_LIST, LB_SETCURSEL, (WPARAM)part, 0);
         SendMessageW(window, WM_COMMAND, MAKEWPARAM(WINDOW_LIST, LBN_SELCHANGE),

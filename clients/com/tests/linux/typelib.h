@@ -1,4 +1,5 @@
-/* As much of Windows' type libraries as tlb2idl.c uses, so that it runs under Linux and its sanitizers (libraries.c). */
+/* As much of Windows' type libraries as tlb2idl.c uses, so that it runs under Linux and its
+ * sanitizers (libraries.c). */
 #ifndef TESTS_TYPELIB_H
 #define TESTS_TYPELIB_H
 
@@ -34,6 +35,7 @@ enum {
     VT_FILETIME = 64,
     VT_CLSID = 72
 };
+
 enum {
     INVOKE_PROPERTYPUTREF = 8,
     PARAMFLAG_FOUT = 2,
@@ -41,6 +43,7 @@ enum {
     PARAMFLAG_FRETVAL = 8,
     PARAMFLAG_FOPT = 0x10
 };
+
 enum {
     FUNCFLAG_FRESTRICTED = 1,
     VARFLAG_FREADONLY = 1,
@@ -48,12 +51,14 @@ enum {
     TYPEFLAG_FDISPATCHABLE = 0x1000,
     IMPLTYPEFLAG_FSOURCE = 2
 };
+
 #define MEMBERID_NIL (-1)
 #define CP_UTF8 65001
 
 typedef int64_t INT_LONG;
 typedef LONG MEMBERID;
 typedef DWORD HREFTYPE;
+
 typedef enum TYPEKIND {
     TKIND_ENUM,
     TKIND_RECORD,
@@ -65,25 +70,31 @@ typedef enum TYPEKIND {
     TKIND_UNION,
     TKIND_MAX
 } TYPEKIND;
+
 typedef struct TYPEDESC {
     union {
         struct TYPEDESC *lptdesc;
         HREFTYPE hreftype;
     };
+
     VARTYPE vt;
 } TYPEDESC;
+
 typedef struct PARAMDESCEX {
     ULONG cBytes;
     VARIANT varDefaultValue;
 } PARAMDESCEX;
+
 typedef struct PARAMDESC {
     PARAMDESCEX *pparamdescex;
     USHORT wParamFlags;
 } PARAMDESC;
+
 typedef struct ELEMDESC {
     TYPEDESC tdesc;
     PARAMDESC paramdesc;
 } ELEMDESC;
+
 typedef struct FUNCDESC {
     MEMBERID memid;
     ELEMDESC *lprgelemdescParam;
@@ -92,17 +103,20 @@ typedef struct FUNCDESC {
     ELEMDESC elemdescFunc;
     WORD wFuncFlags;
 } FUNCDESC;
+
 typedef struct VARDESC {
     MEMBERID memid;
     ELEMDESC elemdescVar;
     WORD wVarFlags;
 } VARDESC;
+
 typedef struct TYPEATTR {
     GUID guid;
     TYPEKIND typekind;
     WORD cFuncs, cVars, cImplTypes, wTypeFlags;
     TYPEDESC tdescAlias;
 } TYPEATTR;
+
 typedef struct TLIBATTR {
     GUID guid;
     WORD wMajorVerNum, wMinorVerNum;
@@ -114,7 +128,8 @@ UINT ITypeLib_GetTypeInfoCount(ITypeLib *of);
 HRESULT ITypeLib_GetTypeInfo(ITypeLib *of, UINT place, ITypeInfo **info);
 HRESULT ITypeLib_GetLibAttr(ITypeLib *of, TLIBATTR **attributes);
 void ITypeLib_ReleaseTLibAttr(ITypeLib *of, TLIBATTR *attributes);
-HRESULT ITypeLib_GetDocumentation(ITypeLib *of, INT place, BSTR *name, BSTR *text, DWORD *context, BSTR *file);
+HRESULT ITypeLib_GetDocumentation(ITypeLib *of, INT place, BSTR *name, BSTR *text, DWORD *context,
+                                  BSTR *file);
 void ITypeInfo_AddRef(ITypeInfo *info);
 void ITypeInfo_Release(ITypeInfo *info);
 HRESULT ITypeInfo_GetTypeAttr(ITypeInfo *info, TYPEATTR **attributes);
@@ -124,13 +139,14 @@ void ITypeInfo_ReleaseFuncDesc(ITypeInfo *info, FUNCDESC *function);
 HRESULT ITypeInfo_GetVarDesc(ITypeInfo *info, UINT place, VARDESC **variable);
 void ITypeInfo_ReleaseVarDesc(ITypeInfo *info, VARDESC *variable);
 HRESULT ITypeInfo_GetNames(ITypeInfo *info, MEMBERID id, BSTR *names, UINT most, UINT *count);
-HRESULT ITypeInfo_GetDocumentation(ITypeInfo *info, MEMBERID id, BSTR *name, BSTR *text, DWORD *context, BSTR *file);
+HRESULT ITypeInfo_GetDocumentation(ITypeInfo *info, MEMBERID id, BSTR *name, BSTR *text,
+                                   DWORD *context, BSTR *file);
 HRESULT ITypeInfo_GetRefTypeOfImplType(ITypeInfo *info, UINT place, HREFTYPE *reference);
 HRESULT ITypeInfo_GetImplTypeFlags(ITypeInfo *info, UINT place, INT *flags);
 HRESULT ITypeInfo_GetRefTypeInfo(ITypeInfo *info, HREFTYPE reference, ITypeInfo **found);
 UINT SysStringLen(BSTR text);
 void SysFreeString(BSTR text);
-int WideCharToMultiByte(UINT page, DWORD flags, const WCHAR *wide, int count, char *bytes, int room, const char *other,
-                        BOOL *used);
+int WideCharToMultiByte(UINT page, DWORD flags, const WCHAR *wide, int count, char *bytes, int room,
+                        const char *other, BOOL *used);
 
 #endif

@@ -68,21 +68,27 @@ static size_t size_of(VARTYPE type)
 {
     switch (type) {
     case VT_I1:
-    case VT_UI1: return 1;
+    case VT_UI1:
+        return 1;
     case VT_I2:
     case VT_UI2:
-    case VT_BOOL: return 2;
+    case VT_BOOL:
+        return 2;
     case VT_I4:
     case VT_UI4:
     case VT_INT:
     case VT_UINT:
-    case VT_R4: return 4;
+    case VT_R4:
+        return 4;
     case VT_I8:
     case VT_UI8:
     case VT_CY:
-    case VT_R8: return 8;
-    case VT_BSTR: return sizeof(BSTR);
-    case VT_VARIANT: return sizeof(VARIANT);
+    case VT_R8:
+        return 8;
+    case VT_BSTR:
+        return sizeof(BSTR);
+    case VT_VARIANT:
+        return sizeof(VARIANT);
     }
     abort();
 }
@@ -113,7 +119,9 @@ SAFEARRAY *SafeArrayCreate(VARTYPE type, UINT dimensions, const SAFEARRAYBOUND *
     array = (SAFEARRAY *)(block + BEFORE);
     memset(array, 0, sizeof *array);
     array->cDims = (USHORT)dimensions;
-    array->fFeatures = FADF_HAVEVARTYPE | (type == VT_BSTR ? 0x100 : type == VT_VARIANT ? 0x800 : 0);
+    array->fFeatures = FADF_HAVEVARTYPE | (type == VT_BSTR      ? 0x100
+                                           : type == VT_VARIANT ? 0x800
+                                                                : 0);
     array->cbElements = (ULONG)size_of(type);
     for (i = 0; i < dimensions; i++)
         array->rgsabound[i] = bounds[dimensions - 1 - i];
@@ -206,6 +214,7 @@ struct timer {
     PVOID context;
     int is_set;
 };
+
 static PTP_TIMER last_timer;
 static ULONGLONG skipped;
 

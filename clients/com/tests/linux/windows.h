@@ -1,5 +1,5 @@
-/* As much of Windows as wire.c and connection.c use, so that they run under Linux and its sanitizers (fuzz.c).
-   WCHAR has 16 bits: build with -fshort-wchar. */
+/* As much of Windows as wire.c and connection.c use, so that they run under Linux and its
+   sanitizers (fuzz.c). WCHAR has 16 bits: build with -fshort-wchar. */
 #ifndef TESTS_WINDOWS_H
 #define TESTS_WINDOWS_H
 
@@ -35,6 +35,7 @@ typedef struct GUID {
     UINT16 b, c;
     BYTE d[8];
 } GUID;
+
 typedef const GUID *REFGUID, *REFIID;
 extern const GUID GUID_NULL;
 #define IsEqualGUID(one, other) (!memcmp(one, other, sizeof(GUID)))
@@ -56,7 +57,14 @@ extern const GUID GUID_NULL;
 #define DISPID_PROPERTYPUT (-3)
 #define PARAMFLAG_FHASDEFAULT 0x20
 #define IMPLTYPEFLAG_FDEFAULT 1
-enum { DISPATCH_METHOD = 1, DISPATCH_PROPERTYGET = 2, DISPATCH_PROPERTYPUT = 4, DISPATCH_PROPERTYPUTREF = 8 };
+
+enum {
+    DISPATCH_METHOD = 1,
+    DISPATCH_PROPERTYGET = 2,
+    DISPATCH_PROPERTYPUT = 4,
+    DISPATCH_PROPERTYPUTREF = 8
+};
+
 enum { INVOKE_FUNC = 1, INVOKE_PROPERTYGET = 2, INVOKE_PROPERTYPUT = 4 };
 
 /* ---- values */
@@ -89,6 +97,7 @@ enum {
     VT_ARRAY = 0x2000,
     VT_BYREF = 0x4000
 };
+
 #define VARIANT_TRUE ((VARIANT_BOOL)-1)
 #define DECIMAL_NEG 0x80
 #define FADF_HAVEVARTYPE 0x80
@@ -99,13 +108,16 @@ typedef struct DECIMAL {
     ULONG Hi32;
     ULONGLONG Lo64;
 } DECIMAL;
+
 typedef struct CY {
     LONGLONG int64;
 } CY;
+
 typedef struct SAFEARRAYBOUND {
     ULONG cElements;
     LONG lLbound;
 } SAFEARRAYBOUND;
+
 typedef struct SAFEARRAY {
     USHORT cDims, fFeatures;
     ULONG cbElements, cLocks;
@@ -118,6 +130,7 @@ typedef struct VARIANT {
         struct {
             VARTYPE vt;
             WORD reserved[3];
+
             union {
                 BYTE ui1;
                 SHORT i2;
@@ -135,14 +148,17 @@ typedef struct VARIANT {
                 PVOID record[2];
             };
         };
+
         DECIMAL decimal;
     };
 } VARIANT;
+
 typedef struct DISPPARAMS {
     VARIANT *rgvarg;
     DISPID *rgdispidNamedArgs;
     UINT cArgs, cNamedArgs;
 } DISPPARAMS;
+
 #define V_VT(v) ((v)->vt)
 #define V_UI1(v) ((v)->ui1)
 #define V_I2(v) ((v)->i2)
@@ -173,6 +189,7 @@ int lstrlenW(const WCHAR *text);
 typedef struct CRITICAL_SECTION {
     int depth;
 } CRITICAL_SECTION;
+
 void InitializeCriticalSection(CRITICAL_SECTION *lock);
 void EnterCriticalSection(CRITICAL_SECTION *lock);
 void LeaveCriticalSection(CRITICAL_SECTION *lock);
@@ -181,16 +198,20 @@ void DeleteCriticalSection(CRITICAL_SECTION *lock);
 typedef struct timer *PTP_TIMER;
 typedef PVOID PTP_CALLBACK_INSTANCE;
 typedef void (*PTP_TIMER_CALLBACK)(PTP_CALLBACK_INSTANCE, PVOID, PTP_TIMER);
+
 typedef struct FILETIME {
     DWORD dwLowDateTime, dwHighDateTime;
 } FILETIME;
+
 typedef union LARGE_INTEGER {
     struct {
         DWORD LowPart;
         LONG HighPart;
     } u;
+
     LONGLONG QuadPart;
 } LARGE_INTEGER;
+
 PTP_TIMER CreateThreadpoolTimer(PTP_TIMER_CALLBACK call, PVOID context, PVOID environment);
 void SetThreadpoolTimer(PTP_TIMER timer, FILETIME *due, DWORD period, DWORD window);
 void WaitForThreadpoolTimerCallbacks(PTP_TIMER timer, BOOL cancel);
@@ -203,6 +224,7 @@ typedef int SOCKET;
 #define INVALID_SOCKET (-1)
 #define WSAETIMEDOUT 10060
 #define MAKEWORD(low, high) ((WORD)((low) | (high) << 8))
+
 typedef struct WSADATA {
     int none;
 } WSADATA;

@@ -61,14 +61,7 @@ LIMITS = {"Turn": 810, "IsCrashHistory": 1_335}
 # disk, in a group and in a session. What these crates say of a single request is promise 1's, and
 # what many clients add is promise 3's: neither is followed from here.
 DURABLE = "oa_history.specs.promise.CrashHistories.IsCrashHistory"
-DURABLE_CRATES = (
-    "oa_disk",
-    "oa_journal",
-    "oa_store",
-    "oa_group_commit",
-    "oa_server",
-    "oa_history",
-)
+DURABLE_CRATES = ("oa_disk", "oa_journal", "oa_store", "oa_group_commit", "oa_server", "oa_history")
 MANY_CLIENTS = [
     "oa_history.specs.promise.Framed.ServesShared",
     "oa_history.specs.promise.Framed.HasWrittenFrames",

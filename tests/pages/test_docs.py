@@ -10,9 +10,7 @@ import tempfile
 import unittest
 
 from tests.support.running import ROOT, Cases
-
-sys.path.insert(0, f"{ROOT}/tools")
-import spec
+from tools import spec
 
 COLUMNS = 100
 SPECS_COLUMNS = 120

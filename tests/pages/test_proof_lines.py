@@ -7,9 +7,7 @@ import tempfile
 import unittest
 
 from tests.support.running import ROOT, Cases
-
-sys.path.append(f"{ROOT}/tools")
-import proof_lines
+from tools import proof_lines
 
 TOOL = f"{ROOT}/tools/proof_lines.py"
 NAMES = [f"a_name_that_is_rather_long_{it}" for it in range(8)]

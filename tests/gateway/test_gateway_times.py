@@ -128,6 +128,20 @@ CALL = re.compile(r"(?m)^(?:\d+ +)?(\w+)\((.*)\) += (-?\d+)")
 @needs_cc
 @left_out("strace")
 class Holds(Cases):
+    def look_at_calls(self, path):
+        """Compares the bytes that were copied before the hold, and in it, by the traced calls."""
+        with open(path) as file:
+            calls = [(name, what, int(count)) for name, what, count in CALL.findall(file.read())]
+        begins = lambda call, word: next(
+            at for at, (name, what, _) in enumerate(calls) if name == call and word in what
+        )
+        holds, frees = begins("recvfrom", '"held'), begins("sendto", '"free')
+        for call in ("pread64", "pwrite64"):
+            size = lambda some: sum(count for name, _, count in some if name == call)
+            before, within = size(calls[:holds]), size(calls[holds:frees])
+            self.tell(f"{call} before the hold", before > 60 * 2 * TEXT, before)
+            self.tell(f"{call} while clients wait", within < 4 << 20, within)
+
     def test_bytes_of_a_hold(self):
         """While clients wait for a backup, it copies what has changed, however long the file is."""
         with tempfile.TemporaryDirectory(dir="/var/tmp") as room:
@@ -170,25 +184,7 @@ class Holds(Cases):
                 finally:
                     stop.set()
                     thread.join()
-                with open(f"{room}/calls") as file:
-                    calls = [
-                        (name, what, int(count)) for name, what, count in CALL.findall(file.read())
-                    ]
-                holds = next(
-                    at
-                    for at, (name, what, _) in enumerate(calls)
-                    if name == "recvfrom" and '"held' in what
-                )
-                frees = next(
-                    at
-                    for at, (name, what, _) in enumerate(calls)
-                    if name == "sendto" and '"free' in what
-                )
-                for call in ("pread64", "pwrite64"):
-                    size = lambda some: sum(count for name, _, count in some if name == call)
-                    before, within = size(calls[:holds]), size(calls[holds:frees])
-                    self.tell(f"{call} before the hold", before > 60 * 2 * TEXT, before)
-                    self.tell(f"{call} while clients wait", within < 4 << 20, within)
+                self.look_at_calls(f"{room}/calls")
                 status, _, err = run_in(room, ["dump", "--library", "copy"])
                 self.tell("the copy opens", status == 0, err)
                 self.tell("its end", gateway.end()[0] == 0)

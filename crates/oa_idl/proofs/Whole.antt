@@ -72,11 +72,11 @@ closing_parses n s = this_parses (passes (codes "}"))
 
 property_heads : (test : Word → Bool) → ((w : Word) → passes (codes "[") w ≡ true → test w ≡ false)
     → (p : Property) (text more : List Word) → property p text → heads test (text ++ more) ≡ false
-unfolding Rattle.oa_idl.specs.Grammar.property_head
+unfolding Rattle.oa_idl.specs.promise.Grammar.property_head
 property_heads test is p text more f = then_heads test false text more (λ front left h. first_heads test (passes (codes "[")) false is front left h) f
 
 property_some : (p : Property) (text : List Word) → property p text → 0 < length text
-unfolding Rattle.oa_idl.specs.Grammar.property_head
+unfolding Rattle.oa_idl.specs.promise.Grammar.property_head
 property_some p text f = omega (arith, this_some f.front f.first, ap length f.parts, length-append f.front f.back)
 
 -- the members of both sections

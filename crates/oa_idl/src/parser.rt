@@ -303,7 +303,7 @@ fn items(alloc: Global, r: &mut Reader<'_>, room: usize) -> Result<Vec<Item>, St
 }
 
 /// Reads a whole text. Err: `Syntax`, `Limit`, `Memory`.
-#[tactic(auto, unfolding(crate::proofs::OnReadings::combinators, crate::specs::GrammarReading::elements_at, crate::specs::GrammarReading::library_at))]
+#[tactic(auto, unfolding(crate::proofs::OnReadings::combinators, crate::specs::GrammarReading::library_contents_at, crate::specs::GrammarReading::library_at))]
 fn library(alloc: Global, r: &mut Reader<'_>) -> Result<Tree, Stop>
     ensures { ReadsWords (λ t. t) result r.new (library_at r.old) }
 {

@@ -45,7 +45,7 @@ pub returns-in-Unwritten : goal.returns-in-Unwritten
 returns-in-Unwritten g c =
     let read = c.in-Unwritten.ensures in
     going_waits (frames c.args.framing) _ _ _ c.args.last.now _ _ _ _ _ _ _ c.turns.requests c.turns.invariant.going _ _ _ read.input read.paced
-    (g.met.W.Sink.keeps _) read.output.0 c.abandon-in-Unwritten.ensures.ended
+    (g.met.W.Sink.keeps _) read.output.0 c.drop_held-in-Unwritten.ensures.ended
 
 pub turns-preserved : goal.turns-preserved
 turns-preserved g c =

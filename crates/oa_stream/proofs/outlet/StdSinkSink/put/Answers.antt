@@ -1,7 +1,7 @@
 use Rattle.std.proofs.Common.{rules, refl, arith}
 use Rattle.oa_stream.proofs.Stretches.{stays_broken, appends_more, appends_kept}
-use Rattle.oa_stream.proofs.outlet.OutletSink.put.Goals.{in-Bytes, in-Again+else-self-ge-MOST_TRIES}
-use Rattle.oa_stream.proofs.outlet.OutletSink.put.Goals as goal
+use Rattle.oa_stream.proofs.outlet.StdSinkSink.put.Goals.{in-Bytes, in-Again+else-self-ge-MOST_TRIES}
+use Rattle.oa_stream.proofs.outlet.StdSinkSink.put.Goals as goal
 
 pub returns-in-Fault-clause-puts : goal.returns-in-Fault-clause-puts
 returns-in-Fault-clause-puts g c = stays_broken _ _ c.args.bytes.now c.calls.at refl refl

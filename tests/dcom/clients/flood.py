@@ -3,6 +3,7 @@ SECONDS`. What the slowest of them waits for may be so many seconds longer than 
 times as long on a machine where that is more."""
 import multiprocessing
 import socket
+import sys
 import threading
 import time
 

@@ -107,11 +107,11 @@ static HRESULT read_key(Reader *from, int how, VARIANT *value)
     return SUCCEEDED(result) && (from->bad || bytes_left(from)) ? OAUT_E_NO_REPLY : result;
 }
 
-static int digit_of(char sign)
+static int digit_of(char digit)
 {
-    return sign >= '0' && sign <= '9'   ? sign - '0'
-           : sign >= 'a' && sign <= 'f' ? sign - 'a' + 10
-                                        : -1;
+    return digit >= '0' && digit <= '9'   ? digit - '0'
+           : digit >= 'a' && digit <= 'f' ? digit - 'a' + 10
+                                          : -1;
 }
 
 /* The bytes of a line of hexadecimal digits in quotation marks, in its place; their number, or -1

@@ -115,16 +115,16 @@ HRESULT sends_no_changes(Watch *watch)
 static HRESULT have_line(Watch *watch, ULONGLONG until)
 {
     HRESULT result;
-    char sign;
+    char character;
 
     while ((result = have_bytes(watch, until)) == S_OK) {
-        if ((sign = watch->bytes[watch->at++]) == '\n') {
+        if ((character = watch->bytes[watch->at++]) == '\n') {
             watch->line[watch->length] = 0;
             watch->length = 0;
             return S_OK;
         }
         if (watch->length < BEGINNING)
-            watch->line[watch->length++] = sign;
+            watch->line[watch->length++] = character;
     }
     return result;
 }
@@ -156,9 +156,9 @@ int cause_of(const Watch *watch)
     return watch->cause;
 }
 
-static BOOL begins_with(const Watch *watch, const char *signs)
+static BOOL begins_with(const Watch *watch, const char *prefix)
 {
-    return !strncmp(watch->line, signs, strlen(signs));
+    return !strncmp(watch->line, prefix, strlen(prefix));
 }
 
 /* The object of a line; ANY_CHANGED if it has none, as a change of the library. */

@@ -191,10 +191,10 @@ void speak(Client *c)
 
 static void read_client(Client *c)
 {
-    char signs[4096], *to = signs;
+    char digits[4096], *to = digits;
     for (int turns = 0; turns < 4 && c->stage == OPEN && c->in.mark - c->in.start <= QUEUE;
          turns++) {
-        size_t need = wanted(c), room = sizeof signs,
+        size_t need = wanted(c), room = sizeof digits,
                limit = c == alone || c == favoured ? SIZE_MAX : memory / 2;
         c->starved = !make_room(&c->in, need > BASE ? need : BASE, &in_bytes, limit) &&
                      !make_room(&c->in, need, &in_bytes, limit);
@@ -215,7 +215,7 @@ static void read_client(Client *c)
         c->came = now;
         counts.in += (size_t)n;
         if (n)
-            bytes_came(c, signs, (size_t)n);
+            bytes_came(c, digits, (size_t)n);
         else
             end_came(c);
         if ((size_t)n < room)

@@ -29,9 +29,9 @@ static void line_ended(Client *c)
     c->cr = false;
 }
 
-static void signs_came(Client *c, const char *signs, size_t size)
+static void digits_came(Client *c, const char *bytes, size_t size)
 {
-    for (const char *it = signs; it < signs + size && c->stage == OPEN; it++) {
+    for (const char *it = bytes; it < bytes + size && c->stage == OPEN; it++) {
         if (*it == '\n') {
             line_ended(c);
             continue;
@@ -59,8 +59,8 @@ static void signs_came(Client *c, const char *signs, size_t size)
 }
 
 /* Bytes have come: those of records are already in the client's buffer, those of lines at
- * `signs`. */
-void bytes_came(Client *c, const char *signs, size_t size)
+ * `bytes`. */
+void bytes_came(Client *c, const char *bytes, size_t size)
 {
     Buffer *in = &c->in;
     size_t before = in->mark;
@@ -68,7 +68,7 @@ void bytes_came(Client *c, const char *signs, size_t size)
     if (in->end == in->mark)
         c->begun = now;
     if (c->kind == HEX)
-        signs_came(c, signs, size);
+        digits_came(c, bytes, size);
     else {
         in->end += size;
         in->mark += oa_find_requests(in->at + in->mark, in->end - in->mark, &ends);

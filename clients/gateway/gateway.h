@@ -104,7 +104,7 @@ typedef struct client {
     unsigned patience; /* how many turns in a row had few requests of it */
     Buffer in, out;
     size_t digits; /* HEX: of the line that is coming */
-    bool bad, cr;  /* HEX: it is no pairs of digits; its last sign was a CR */
+    bool bad, cr;  /* HEX: it is no pairs of digits; its last character was a CR */
     /* when it last sent, when it last took; since when it waits, and sends what has not come
        whole */
     double came, took, since, begun;
@@ -241,7 +241,7 @@ void accept_clients(struct listener *listener);
 
 /* framing.c */
 size_t wanted(const Client *client);
-void bytes_came(Client *client, const char *signs, size_t size);
+void bytes_came(Client *client, const char *bytes, size_t size);
 void end_came(Client *client);
 void cut_short(Client *client);
 void stop_reading(Client *client);

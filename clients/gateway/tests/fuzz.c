@@ -180,8 +180,8 @@ static void comes(Man *m, size_t most)
 {
     Client *c = m->c;
     for (; m->filled && most && c->stage == OPEN;) {
-        char signs[4096], *to = signs;
-        size_t need = wanted(c), n = sizeof signs;
+        char digits[4096], *to = digits;
+        size_t need = wanted(c), n = sizeof digits;
         if (!make_room(&c->in, need > BASE ? need : BASE, &in_bytes, memory / 2) &&
             !make_room(&c->in, need, &in_bytes, memory / 2))
             return;
@@ -197,7 +197,7 @@ static void comes(Man *m, size_t most)
         memmove(m->pipe, m->pipe + n, m->filled);
         most -= n;
         look_at(m);
-        bytes_came(c, signs, n);
+        bytes_came(c, digits, n);
     }
     if (!m->filled && m->eof && c->stage == OPEN) {
         look_at(m);

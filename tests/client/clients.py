@@ -41,7 +41,7 @@ class ClientCases(Cases):
             found = {it: getattr(error, it) for it in wanted}
             own = (
                 type(error).__bases__[-1:] == (kind,) and isinstance(error, oaut.Error)
-                if not kind.__module__.startswith(("oaut", "test_"))
+                if not kind.__module__.startswith(("oaut", "tests."))
                 else type(error) is kind
             )
             well = own and found == wanted and (says is None or str(error) == says)

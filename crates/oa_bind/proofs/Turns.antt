@@ -43,7 +43,7 @@ pub key_breaks : (named : List ℤ) (old mid : List Variant) (parameters : List 
     → (fault ≡ lacks_memory) ⊎ (each_at (parameter_value (given_call named old)) 0 parameters ≡ Err fault)
 key_breaks named old mid parameters front place p fault few len stay within here so_far (inl memory) = inl memory
 key_breaks named old mid parameters front place p fault few len stay within here so_far (inr is) =
-    let next : drop place parameters ≡ p ∷ drop (place + 1) parameters = rw here given_argument (drop_more parameters place p within) in
+    let next : drop place parameters ≡ p ∷ drop (place + 1) parameters = rw here at (drop_more parameters place p within) in
     inr (each_breaks (parameter_value (given_call named old)) front parameters place p fault _ next (sym (value_stays named old mid place p few len stay) ∙ is)
     so_far)
 
@@ -55,7 +55,7 @@ pub key_goes_on : (named : List ℤ) (old mid : List Variant) (parameters : List
     → with_front (front ++ v ∷ []) (each_at (parameter_value (given_call named old)) (place + 1) (drop (place + 1) parameters)) ≡ each_at
     (parameter_value (given_call named old)) 0 parameters
 key_goes_on named old mid parameters front place p v few len stay within here so_far is =
-    let next : drop place parameters ≡ p ∷ drop (place + 1) parameters = rw here given_argument (drop_more parameters place p within) in
+    let next : drop place parameters ≡ p ∷ drop (place + 1) parameters = rw here at (drop_more parameters place p within) in
     each_goes_on (parameter_value (given_call named old)) front parameters place p v _ next (sym (value_stays named old mid place p few len stay) ∙ is) so_far
 
 -- The new value has not moved.

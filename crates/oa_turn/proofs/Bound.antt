@@ -127,8 +127,8 @@ unfolding each_at
 key_made call place [] ones = refl
 key_made call place (p ∷ ps) ones =
     if_both _ (parameter_value call place p) _ (λ s here. if_both _ (each_at (parameter_value call) (place + 1) ps) _ (λ ss rest.
-    let first : fits_declared (One s) p.value_type ≡ true = rw here given_argument (parameter_fits p (argument_for call place) ones.0) in
-    let others : key_fits ps ss ≡ true = rw rest given_argument (key_made call (place + 1) ps ones.1) in
+    let first : fits_declared (One s) p.value_type ≡ true = rw here at (parameter_fits p (argument_for call place) ones.0) in
+    let others : key_fits ps ss ≡ true = rw rest at (key_made call (place + 1) ps ones.1) in
     and_from (fits_declared (One s) p.value_type) (key_fits ps ss) first others))
 
 -- ---- the new value of a put
@@ -169,6 +169,6 @@ bound_fits member kind call is =
     if_both (FitsMember member) (each_at (parameter_value call) 0 member.parameters) _ (λ key keyed.
     if_both (FitsMember member) (given_new_value call member.value_type kind) _ (λ value valued.
     record {
-      key = rw keyed given_argument (key_made call 0 member.parameters is.scalars);
-      value = rw valued given_argument (new_fits call member.value_type kind);
+      key = rw keyed at (key_made call 0 member.parameters is.scalars);
+      value = rw valued at (new_fits call member.value_type kind);
     }))))

@@ -22,7 +22,7 @@ use Rattle.oa_server.specs.declared.storage.Storage.{Storage}
 use Rattle.oa_history.specs.promise.Framed.{HasWrittenFrames, ServesShared}
 use Rattle.oa_history.specs.promise.DurablePrefixes.{CallSequence, CompletedCall, KeepsDurablePrefix, Serving}
 use Rattle.oa_history.specs.promise.DurablePrefixes.{HasWritten}
-use Rattle.oa_history.specs.declared.history.CrashHistories.{CrashHistory}
+use Rattle.oa_history.specs.declared.history.CrashHistory.{CrashHistory}
 use Rattle.oa_history.specs.declared.session.Answer.{Answer}
 use Rattle.oa_history.specs.declared.session.Asked.{Asked}
 use Rattle.oa_history.specs.declared.session.Asked.TheVariants as ask

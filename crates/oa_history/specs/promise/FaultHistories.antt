@@ -23,7 +23,7 @@ use Rattle.oa_history.specs.promise.CrashHistories.{IsRecovered, call_bodies}
 use Rattle.oa_history.specs.declared.failing.FaultyServer.{FaultyServer}
 use Rattle.oa_history.specs.declared.failing.CallOutcome.{CallOutcome}
 use Rattle.oa_history.specs.declared.session.ServerCall.{ServerCall}
-use Rattle.oa_history.specs.declared.surviving.FaultHistories.{FaultHistory}
+use Rattle.oa_history.specs.declared.surviving.FaultHistory.{FaultHistory}
 
 -- ---- the calls of a server
 
